@@ -1,0 +1,42 @@
+use Rattle.sheet.specs.Rank.{rank}
+use Rattle.sheet.proofs.Signed.{read-back}
+use borrow.Author.Needs.{needs}
+use Rattle.sheet.proofs.Point.rank.Statement.{statement}
+use Rattle.sheet.proofs.Point.rank.Tie as tie
+
+shifted-requires : tie.Need-shifted-requires
+shifted-requires c κs = search needs
+
+shifted-requires-2 : tie.Need-shifted-requires-2
+shifted-requires-2 c κs = search needs
+
+cast-result : tie.Need-cast-result
+cast-result c = search needs
+
+mul-result : tie.Need-mul-result
+mul-result c = search needs
+
+cast-result-2 : tie.Need-cast-result-2
+cast-result-2 c = search needs
+
+add-result : tie.Need-add-result
+add-result c = search needs
+
+returns : tie.Need-returns
+unfolding rank
+returns c =
+    let p = c .before .before .before .before .args .self in
+    let s = c .before .before .before .struct-told .given in
+    rw (c .before .before .shifted .ensures, c .shifted2 .ensures, read-back (p .y) (s .1 .0 .1), read-back (p .x) (s .0 .1))
+
+pub rank-spec : {M : Type 1} → statement M
+rank-spec =
+    tie.close
+    (tie.spec
+    shifted-requires
+    shifted-requires-2
+    cast-result
+    mul-result
+    cast-result-2
+    add-result
+    returns)

@@ -1,0 +1,52 @@
+-- A list of numbers as edges, and as the sweep sees it: places, compared by their heights.
+use Prim.Native.Nat.{ℕ, _+_, _*_, _/_, min, max, _≤_, _<_}
+use mathlib.Core.Bool.{Bool, false}
+use mathlib.Core.List.{List}
+use lib.IntN.{ℤ, pos}
+use lib.ListN.{getD, length}
+use Rattle.sheet.specs.declared.Edge.{Edge}
+use Rattle.sheet.specs.Rank.{rank}
+
+-- 01 Points 1.1: the four numbers of an edge in their order
+unfoldable pub edgeAt : List ℤ → ℕ → Edge
+edgeAt s e =
+    record {
+      tail = record { x = getD s (4 * e) (pos 0); y = getD s (4 * e + 1) (pos 0) };
+      head = record { x = getD s (4 * e + 2) (pos 0); y = getD s (4 * e + 3) (pos 0) };
+    }
+
+unfoldable pub edgesIn : List ℤ → ℕ
+edgesIn s = length s / 4
+
+-- A list of edges: how many there are, and the places of each one's tail and head. Below, above and highest go by the height of places; edges meet
+-- where places are equal. A place has a film, and where it is apart its two lower edges do not join each other.
+pub record Sheet : Type 0 where
+  pub edges : ℕ
+  pub tail : ℕ → ℕ
+  pub head : ℕ → ℕ
+  pub height : ℕ → ℕ
+  pub film : ℕ → ℕ
+  pub apart : ℕ → Bool
+
+-- In document 01 a place is a point, by its rank, which is its height too; there is one film, and no place is apart.
+unfoldable pub sheetOf : List ℤ → Sheet
+sheetOf s =
+    record {
+      edges = edgesIn s;
+      tail = λ e. rank (edgeAt s e .tail);
+      head = λ e. rank (edgeAt s e .head);
+      height = λ p. p;
+      film = λ p. 0;
+      apart = λ p. false;
+    }
+
+-- how high an edge's top and bottom lie
+abbrev pub topHeight : Sheet → ℕ → ℕ
+topHeight sh e = max (sh .height (sh .tail e)) (sh .height (sh .head e))
+
+abbrev pub bottomHeight : Sheet → ℕ → ℕ
+bottomHeight sh e = min (sh .height (sh .tail e)) (sh .height (sh .head e))
+
+-- 01 Points 3.3: along the list the tops never fall
+abbrev pub SweepOrder : Sheet → Type 0
+SweepOrder sh = (e : ℕ) → e + 1 < sh .edges → topHeight sh e ≤ topHeight sh (e + 1)

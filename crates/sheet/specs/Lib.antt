@@ -1,0 +1,9 @@
+pub mod Points
+pub mod Rank
+pub mod Edges
+pub mod Kinds
+pub mod Joining
+pub mod Numbering
+pub mod Passing
+pub mod Answers
+pub mod TurnList

@@ -1,0 +1,233 @@
+// Points and edges with what belongs to them: the order, sameness, top, bottom, up or down, the range, the rank.
+// Then the answers of the two calls. What each means is defined in specs/, in the paper's words.
+ghost use mathlib.Core.Path.{_≡_};
+ghost use Prim.Native.Nat.{_+_, _*_, _<_};
+ghost use lib.ListN.{length};
+ghost use Rattle.sheet.specs.Points.{isBelow, isSame, within, inRange, isUp, topOf, bottomOf};
+ghost use Rattle.sheet.specs.Rank.{shift, rank};
+ghost use Rattle.sheet.specs.Edges.{edgeAt};
+ghost use Rattle.sheet.specs.Answers.{numberOf, placeOf};
+ghost use Rattle.sheet.specs.TurnList.{turnNumberOf, turnPlaceOf};
+
+pub struct Point {
+    pub x: i32,
+    pub y: i32,
+}
+
+impl Point {
+    // The coordinates' limits.
+    pub const LEAST: i32 = -1_000_000;
+
+    pub const MOST: i32 = 1_000_000;
+
+    // Whether this point is below the other: by y, and at equal y by x.
+    pub fn below(self, other: Point) -> bool
+        ensures { λ r. ⌜ r ≡ isBelow self other ⌝ }
+    {
+        if self.y == other.y {
+            return self.x < other.x;
+        }
+        self.y < other.y
+    }
+
+    pub fn same(self, other: Point) -> bool
+        ensures { λ r. ⌜ r ≡ isSame self other ⌝ }
+    {
+        if self.y == other.y {
+            return self.x == other.x;
+        }
+        false
+    }
+
+    pub fn in_range(self) -> bool
+        ensures { λ r. ⌜ r ≡ inRange self ⌝ }
+    {
+        let x = self.x;
+        let y = self.y;
+        between_limits(x) && between_limits(y)
+    }
+
+    // One number for a point. In the range it orders points as below does and tells them apart.
+    pub fn rank(self) -> u64
+        ensures { λ r. ⌜ r ≡ rank self ⌝ }
+    {
+        let y = shifted(self.y);
+        let x = shifted(self.x);
+        (y as u64) * 2_000_001 + (x as u64)
+    }
+}
+
+// Whether a coordinate lies between the limits.
+fn between_limits(c: i32) -> bool
+    ensures { λ r. ⌜ r ≡ within c ⌝ }
+{
+    Point::LEAST <= c && c <= Point::MOST
+}
+
+// A coordinate moved up by a million, so that the least is 0.
+fn shifted(c: i32) -> u32
+    ensures { λ r. ⌜ r ≡ shift c ⌝ }
+{
+    if c < Point::LEAST {
+        return 0;
+    }
+    ((c as i64) + 1_000_000) as u32
+}
+
+pub struct Edge {
+    pub tail: Point,
+    pub head: Point,
+}
+
+impl Edge {
+    // How many numbers an edge has in a list: tail x, tail y, head x, head y.
+    pub const NUMBERS: usize = 4;
+
+    // The edge at a place of a list.
+    pub fn at(edges: &[i32], place: usize) -> Edge
+        requires { ⌜ 4 * place + 3 < length (now edges) ⌝ }
+        ensures { λ r. ⌜ r ≡ edgeAt (now (edges .entry)) place ⌝ }
+    {
+        let first = Edge::NUMBERS * place;
+        let tail = Point {
+            x: edges[first],
+            y: edges[first + 1],
+        };
+        let head = Point {
+            x: edges[first + 2],
+            y: edges[first + 3],
+        };
+        Edge { tail, head }
+    }
+
+    // Whether the head is the higher end.
+    pub fn is_up(self) -> bool
+        ensures { λ r. ⌜ r ≡ isUp self ⌝ }
+    {
+        let tail = self.tail;
+        let head = self.head;
+        tail.below(head)
+    }
+
+    // The higher end.
+    pub fn top(self) -> Point
+        ensures { λ r. ⌜ r ≡ topOf self ⌝ }
+    {
+        let tail = self.tail;
+        let head = self.head;
+        if tail.below(head) { head } else { tail }
+    }
+
+    // The lower end.
+    pub fn bottom(self) -> Point
+        ensures { λ r. ⌜ r ≡ bottomOf self ⌝ }
+    {
+        let tail = self.tail;
+        let head = self.head;
+        if tail.below(head) { tail } else { head }
+    }
+}
+
+// Why the numbering refuses a call. Each has its number and its place in the paper; the place is an edge's where one is held.
+pub enum Refusal {
+    NotWhole,
+    TooMany,
+    ListsDiffer,
+    JournalShort,
+    PastRange(u32),
+    EqualEnds(u32),
+    TopFalls(u32),
+    Repeated(u32),
+    Uneven(u32),
+    NoRow(u32),
+}
+
+impl Refusal {
+    pub fn number(self) -> u32
+        ensures { λ r. ⌜ r ≡ numberOf self ⌝ }
+    {
+        match self {
+            Refusal::NotWhole => 1,
+            Refusal::TooMany => 2,
+            Refusal::ListsDiffer => 3,
+            Refusal::JournalShort => 4,
+            Refusal::PastRange(_) => 5,
+            Refusal::EqualEnds(_) => 6,
+            Refusal::TopFalls(_) => 7,
+            Refusal::Repeated(_) => 8,
+            Refusal::Uneven(_) => 9,
+            Refusal::NoRow(_) => 10,
+        }
+    }
+
+    pub fn place(self) -> u32
+        ensures { λ r. ⌜ r ≡ placeOf self ⌝ }
+    {
+        match self {
+            Refusal::NotWhole => 0,
+            Refusal::TooMany => 0,
+            Refusal::ListsDiffer => 0,
+            Refusal::JournalShort => 0,
+            Refusal::PastRange(e) => e,
+            Refusal::EqualEnds(e) => e,
+            Refusal::TopFalls(e) => e,
+            Refusal::Repeated(e) => e,
+            Refusal::Uneven(e) => e,
+            Refusal::NoRow(e) => e,
+        }
+    }
+}
+
+// What the checks before the sweeps answer.
+pub enum Check {
+    Passed,
+    Refused(Refusal),
+}
+
+// What the numbering answers.
+pub enum Answer {
+    Accepted {
+        polygons: u32,
+        peak: u32,
+        records: u32,
+    },
+    Refused(Refusal),
+}
+
+// Why a turn list is refused.
+pub enum TurnRefusal {
+    LengthsDiffer,
+    NoPolygon(u32),
+    PairRepeated(u32),
+    Gap(u32),
+}
+
+impl TurnRefusal {
+    pub fn number(self) -> u32
+        ensures { λ r. ⌜ r ≡ turnNumberOf self ⌝ }
+    {
+        match self {
+            TurnRefusal::LengthsDiffer => 11,
+            TurnRefusal::NoPolygon(_) => 12,
+            TurnRefusal::PairRepeated(_) => 13,
+            TurnRefusal::Gap(_) => 14,
+        }
+    }
+
+    pub fn place(self) -> u32
+        ensures { λ r. ⌜ r ≡ turnPlaceOf self ⌝ }
+    {
+        match self {
+            TurnRefusal::LengthsDiffer => 0,
+            TurnRefusal::NoPolygon(e) => e,
+            TurnRefusal::PairRepeated(e) => e,
+            TurnRefusal::Gap(e) => e,
+        }
+    }
+}
+
+// What the turn list answers: the number of polygons, or why not.
+pub enum TurnAnswer {
+    Accepted(u32),
+    Refused(TurnRefusal),
+}

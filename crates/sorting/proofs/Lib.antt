@@ -1,0 +1,6 @@
+pub mod Tally
+pub mod Putting
+pub mod Shuffles
+pub mod Merging
+pub mod OneOrder
+pub mod Standing

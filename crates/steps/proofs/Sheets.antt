@@ -1,0 +1,161 @@
+-- Sheets of document 01 worked by the steps: one table, one test that is computed over all of it.
+use Prim.Native.Nat.{ℕ, suc, _*_, _/_}
+use mathlib.Core.Path.{_≡_, refl}
+use mathlib.Core.Bool.{Bool, true, false, _&&_}
+use mathlib.Core.List.{List, [], _∷_, map}
+use lib.Dec.{eqb, ltb}
+use lib.IntN.{pos, natAbs}
+use lib.ListN.{length}
+use Rattle.laws.specs.Counting as counting
+use Rattle.sheet.specs.Edges as edges
+use Rattle.sheet.specs.Edges.{Sheet, sheetOf}
+use Rattle.sheet.specs.Rank as ranks
+use Rattle.steps.specs.declared.End.{End}
+use Rattle.steps.specs.declared.End.the-variants.{Done, NoFreeRow, Overrun}
+use Rattle.steps.specs.Rows.{Row, Record, Room, closing}
+use Rattle.steps.specs.SweepUp as up
+use Rattle.steps.specs.SweepUp.{State, Sweep, sweepUp, listEdge, start}
+use Rattle.steps.specs.SweepDown as down
+use Rattle.steps.specs.SweepDown.{Numbers, Reading, sweepDown}
+use Rattle.steps.specs.Plain as plain
+use Rattle.steps.specs.Plain.{plainTable, plainJournal, plainTables, newRow, freeRow}
+
+-- a sheet with the rows lent, and what 01 says of it: how it ends and at which edge, polygons, peak, records, the pairs in list order
+record Worked : Type 0 where
+  list : List ℕ
+  rows : ℕ
+  end : End
+  edge : ℕ
+  polygons : ℕ
+  peak : ℕ
+  records : ℕ
+  pairs : List ℕ
+
+abbrev none : Numbers
+none = record { polygon = 0; sequence = pos 0 }
+
+abbrev roomFor : Sheet → ℕ → Room ℕ (ℕ → Row ℕ) (ℕ → Record)
+roomFor sh rows =
+    record {
+      places = record { same = eqb; below = λ p q. ltb (sh .height p) (sh .height q); apart = sh .apart };
+      table = plainTable;
+      journal = plainJournal;
+      rows = rows;
+      records = 2 * sh .edges;
+    }
+
+abbrev sweptOn : Sheet → ℕ → Sweep (ℕ → Row ℕ) (ℕ → Record)
+sweptOn sh rows =
+    sweepUp (roomFor sh rows) (λ i. listEdge i (sh .tail i) (sh .head i))
+    (start (λ r. freeRow (newRow 0 0)) (λ k. record { level = 0; name = 0; chain = closing; offset = pos 0 }))
+    (sh .edges)
+
+abbrev readOf : State (ℕ → Row ℕ) (ℕ → Record) → Reading (ℕ → Numbers) (ℕ → Numbers)
+readOf s = sweepDown plainTables plainJournal (s .journal) (s .records) (record { table = λ r. none; answers = λ e. none; polygons = 0 })
+
+abbrev sameEnd : End → End → Bool
+sameEnd Done Done = true
+sameEnd NoFreeRow NoFreeRow = true
+sameEnd Overrun Overrun = true
+sameEnd Done NoFreeRow = false
+sameEnd Done Overrun = false
+sameEnd NoFreeRow Done = false
+sameEnd NoFreeRow Overrun = false
+sameEnd Overrun Done = false
+sameEnd Overrun NoFreeRow = false
+
+-- the pairs of the edges from i on, of n
+abbrev samePairs : (ℕ → Numbers) → ℕ → ℕ → List ℕ → Bool
+samePairs answers n i [] = eqb i n
+samePairs answers n i (p ∷ []) = false
+samePairs answers n i (p ∷ s ∷ rest) = eqb (answers i .polygon) p && (eqb (natAbs (answers i .sequence)) s && samePairs answers n (suc i) rest)
+
+-- a sheet that ends early is compared up to there
+abbrev rightNumbers : End → State (ℕ → Row ℕ) (ℕ → Record) → Worked → Bool
+rightNumbers Done s w =
+    eqb (readOf s .polygons) (w .polygons) && (eqb (s .peak) (w .peak) && (eqb (s .records) (w .records) && samePairs (readOf s .answers) (length (w .list) / 4) 0 (w .pairs)))
+rightNumbers NoFreeRow s w = true
+rightNumbers Overrun s w = true
+
+right : Worked → Bool
+right w = both (sweptOn (sheetOf (map pos (w .list))) (w .rows))
+  where
+    both : Sweep (ℕ → Row ℕ) (ℕ → Record) → Bool
+    both s = sameEnd (s .state .end) (w .end) && (eqb (s .edge) (w .edge) && rightNumbers (s .state .end) (s .state) w)
+
+allRight : List Worked → Bool
+allRight [] = true
+allRight (w ∷ rest) = right w && allRight rest
+
+accepted : List ℕ → ℕ → ℕ → ℕ → ℕ → ℕ → List ℕ → Worked
+accepted list rows edge polygons peak records pairs =
+    record { list = list; rows = rows; end = Done; edge = edge; polygons = polygons; peak = peak; records = records; pairs = pairs }
+
+triangle : List ℕ
+triangle = 0 ∷ 0 ∷ 4 ∷ 2 ∷ 4 ∷ 2 ∷ 1 ∷ 5 ∷ 1 ∷ 5 ∷ 0 ∷ 0 ∷ []
+
+square : List ℕ
+square = 0 ∷ 0 ∷ 2 ∷ 0 ∷ 0 ∷ 2 ∷ 0 ∷ 0 ∷ 2 ∷ 0 ∷ 2 ∷ 2 ∷ 2 ∷ 2 ∷ 0 ∷ 2 ∷ []
+
+twoPeaks : List ℕ
+twoPeaks = 3 ∷ 2 ∷ 1 ∷ 6 ∷ 1 ∷ 6 ∷ 3 ∷ 0 ∷ 3 ∷ 0 ∷ 6 ∷ 8 ∷ 6 ∷ 8 ∷ 3 ∷ 2 ∷ []
+
+touching : List ℕ
+touching = 3 ∷ 2 ∷ 1 ∷ 6 ∷ 1 ∷ 6 ∷ 3 ∷ 0 ∷ 1 ∷ 6 ∷ 2 ∷ 7 ∷ 3 ∷ 0 ∷ 6 ∷ 8 ∷ 6 ∷ 8 ∷ 3 ∷ 2 ∷ 2 ∷ 7 ∷ 0 ∷ 9 ∷ 0 ∷ 9 ∷ 1 ∷ 6 ∷ []
+
+sheets : List Worked
+sheets =
+    accepted [] 0 0 0 0 0 []
+    ∷ accepted triangle 1 2 1 1 4 (1 ∷ 1 ∷ 1 ∷ 2 ∷ 1 ∷ 0 ∷ [])
+    ∷ accepted (0 ∷ 0 ∷ 1 ∷ 1 ∷ 1 ∷ 1 ∷ 0 ∷ 0 ∷ []) 1 1 1 1 3 (1 ∷ 1 ∷ 1 ∷ 0 ∷ [])
+    ∷ accepted square 1 3 1 1 5 (1 ∷ 2 ∷ 1 ∷ 1 ∷ 1 ∷ 3 ∷ 1 ∷ 0 ∷ [])
+    ∷ accepted twoPeaks 3 3 1 3 7 (1 ∷ 1 ∷ 1 ∷ 2 ∷ 1 ∷ 3 ∷ 1 ∷ 0 ∷ [])
+    ∷ record { list = twoPeaks; rows = 2; end = NoFreeRow; edge = 3; polygons = 0; peak = 0; records = 0; pairs = [] }
+    ∷ accepted touching 4 6 2 4 11 (2 ∷ 1 ∷ 2 ∷ 2 ∷ 1 ∷ 1 ∷ 2 ∷ 3 ∷ 2 ∷ 0 ∷ 1 ∷ 2 ∷ 1 ∷ 0 ∷ [])
+    ∷ []
+
+all-sheets-right : allRight sheets ≡ true
+unfolding
+    allRight
+    right
+    accepted
+    sheets
+    triangle
+    square
+    twoPeaks
+    touching
+    counting.count
+    counting.first
+    counting.first-from
+    edges.edgeAt
+    edges.edgesIn
+    edges.sheetOf
+    ranks.shift
+    ranks.rank
+    up.foundBelow
+    up.hasTip
+    up.asEdge
+    up.find
+    up.lowestFree
+    up.inUse
+    up.open-row
+    up.write
+    up.move
+    up.attach
+    up.close
+    up.meeting
+    up.finish
+    up.free
+    up.passUp
+    up.passBoth
+    up.meet
+    up.onRow
+    up.inChain
+    up.stepsOn
+    up.treat
+    up.sweepUp
+    down.sweepDown
+    plain.plainTable
+    plain.plainJournal
+    plain.plainTables
+all-sheets-right = refl

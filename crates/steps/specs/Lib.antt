@@ -1,0 +1,4 @@
+pub mod Rows
+pub mod SweepUp
+pub mod SweepDown
+pub mod Plain

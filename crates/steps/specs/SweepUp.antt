@@ -1,0 +1,240 @@
+-- The sweep up (01, "The sweep up"), step by step. An up edge works on the rising side of its row, a down edge on the falling side; everything is said
+-- once, over the side. Names at or above the peak were never opened, so rows are looked for below it.
+use Prim.Native.Nat.{ℕ, zero, suc, _+_, max}
+use mathlib.Core.Bool.{Bool, true, false, cond, not, _&&_}
+use lib.Dec.{eqb, ltb, leb}
+use lib.IntN.{ℤ, pos, negℤ}
+use Rattle.laws.specs.Counting.{count, first}
+use Rattle.steps.specs.declared.Side.{Side}
+use Rattle.steps.specs.declared.Side.the-variants.{Rising, Falling}
+use Rattle.steps.specs.declared.Found.{Found}
+use Rattle.steps.specs.declared.Found.the-variants.{At, Nothing}
+use Rattle.steps.specs.declared.End.{End}
+use Rattle.steps.specs.declared.End.the-variants.{Done, NoFreeRow, Overrun}
+use Rattle.steps.specs.Rows.{otherSide, Both, on, with, Branch, Row, Chain, inRow, closing, Record, Edge, Places, Table, Journal, Room}
+
+-- the highest level that an edge may have, and the largest length that a row holds
+abbrev pub levels : ℕ
+levels = 12
+
+abbrev pub mostLength : ℕ
+mostLength = 2147483647
+
+-- the two rooms, how many records are written, the peak, and how the last treatment ended
+pub record State (T J : Type 0) : Type 0 where
+  pub rows : T
+  pub journal : J
+  pub records : ℕ
+  pub peak : ℕ
+  pub end : End
+
+abbrev pub ended : {T J : Type 0} → End → State T J → State T J
+ended e s = record { rows = s .rows; journal = s .journal; records = s .records; peak = s .peak; end = e }
+
+abbrev pub withRows : {T J : Type 0} → T → State T J → State T J
+withRows t s = record { rows = t; journal = s .journal; records = s .records; peak = s .peak; end = s .end }
+
+abbrev pub pickState : {T J : Type 0} → Bool → State T J → State T J → State T J
+pickState true s t = s
+pickState false s t = t
+
+-- go on only where the treatment before is done
+abbrev pub afterDone : {T J : Type 0} → End → State T J → State T J → State T J
+afterDone Done s t = t
+afterDone NoFreeRow s t = s
+afterDone Overrun s t = s
+
+-- the sweep so far: the state, and the edge of the list that is treated, or was when it ended
+pub record Sweep (T J : Type 0) : Type 0 where
+  pub state : State T J
+  pub edge : ℕ
+
+abbrev pub nextEdge : {T J : Type 0} → End → Sweep T J → State T J → ℕ → Sweep T J
+nextEdge Done w s i = record { state = s; edge = i }
+nextEdge NoFreeRow w s i = w
+nextEdge Overrun w s i = w
+
+abbrev pub pickFound : Bool → ℕ → Found
+pickFound true r = At r
+pickFound false r = Nothing
+
+-- the first number below n that passes the test
+unfoldable pub foundBelow : (ℕ → Bool) → ℕ → Found
+foundBelow test n = pickFound (ltb (first test n) n) (first test n)
+
+-- an offset's sign: 0 or more on a rising branch, below 0 on a falling one
+abbrev pub signed : Side → ℕ → ℤ
+signed Rising n = pos n
+signed Falling n = negℤ (pos n)
+
+abbrev pub sideTest : Bool → Side
+sideTest true = Rising
+sideTest false = Falling
+
+module _ {P : Type 0} where
+  -- an up edge works on the rising side
+  abbrev pub sideOf : Places P → Edge P → Side
+  sideOf places e = sideTest (places .below (e .tail) (e .head))
+
+  -- an edge's bottom and top: an up edge has its tail below
+  abbrev pub bottom : Side → Edge P → P
+  bottom Rising e = e .tail
+  bottom Falling e = e .head
+
+  abbrev pub top : Side → Edge P → P
+  top s e = bottom (otherSide s) e
+
+  -- the row is of the level, and its branch on the side is unfinished with its tip at the place
+  unfoldable pub hasTip : Places P → ℕ → Side → P → Row P → Bool
+  hasTip places level s p row =
+      row .used && (eqb (row .level) level && (not (on s (row .branch) .finished) && places .same (on s (row .branch) .tip) p))
+
+  abbrev pub bothFinished : Row P → Bool
+  bothFinished row = row .branch .rising .finished && row .branch .falling .finished
+
+  -- a finished row as an edge: tail at the falling tip, head at the rising tip, with the row's lengths and name
+  unfoldable pub asEdge : ℕ → Row P → Edge P
+  asEdge r row =
+      record {
+        name = r;
+        tail = row .branch .falling .tip;
+        head = row .branch .rising .tip;
+        length = record { rising = row .branch .rising .length; falling = row .branch .falling .length };
+      }
+
+module _ {P T J : Type 0} (room : Room P T J) where
+  abbrev pub look : State T J → ℕ → Row P
+  look s r = room .table .look (s .rows) r
+
+  -- step 1, and step 4 with the other side: the row found
+  unfoldable pub find : State T J → ℕ → Side → P → Found
+  find s level side p = foundBelow (λ r. hasTip (room .places) level side p (look s r)) (s .peak)
+
+  -- the lowest free row: below the peak, or the peak itself
+  unfoldable pub lowestFree : State T J → ℕ
+  lowestFree s = first (λ r. not (look s r .used)) (s .peak)
+
+  unfoldable pub inUse : State T J → ℕ
+  inUse s = count (λ r. look s r .used) (s .peak)
+
+  -- a row opened: both tips at the place, both lengths 0, both unfinished. The peak is the largest number of rows in use.
+  unfoldable pub open-row : State T J → ℕ → ℕ → P → State T J
+  open-row s r level p =
+      record {
+        rows = room .table .opened (s .rows) r level p;
+        journal = s .journal;
+        records = s .records;
+        peak = max (s .peak) (inUse s + 1);
+        end = s .end;
+      }
+
+  -- step 2: a record in the journal
+  unfoldable pub write : State T J → Record → State T J
+  write s entry =
+      record {
+        rows = s .rows;
+        journal = room .journal .written (s .journal) (s .records) entry;
+        records = s .records + 1;
+        peak = s .peak;
+        end = s .end;
+      }
+
+  abbrev pub longer : Side → Row P → Edge P → ℕ
+  longer side row e = on side (row .branch) .length + e .length .falling + e .length .rising
+
+  -- the offset is the branch's length before the edge plus the edge's length on the other side
+  abbrev pub chainRecord : ℕ → Side → Row P → Edge P → ℕ → Record
+  chainRecord level side row e r =
+      record { level = level; name = e .name; chain = inRow r; offset = signed side (on side (row .branch) .length + on (otherSide side) (e .length)) }
+
+  -- step 3: the tip moved to the edge's top, the length with the edge's two lengths added
+  unfoldable pub move : State T J → ℕ → Side → P → ℕ → State T J
+  move s r side p n = withRows (room .table .moved (s .rows) r side p n) s
+
+  -- steps 2 and 3, where the journal has room and the length fits
+  unfoldable pub attach : State T J → ℕ → Side → Edge P → ℕ → State T J
+  attach s level side e r =
+      pickState (ltb (s .records) (room .records) && leb (longer side (look s r) e) mostLength)
+      (move (write s (chainRecord level side (look s r) e r)) r side (top side e) (longer side (look s r) e))
+      (ended Overrun s)
+
+  -- a closing edge only writes a record, its offset the falling length
+  unfoldable pub close : State T J → ℕ → Edge P → State T J
+  close s level e =
+      pickState (ltb (s .records) (room .records))
+      (write s (record { level = level; name = e .name; chain = closing; offset = pos (e .length .falling) }))
+      (ended Overrun s)
+
+  -- step 4: the row whose other branch has its tip at the edge's top; at a place that is apart there is none
+  abbrev pub pickMeeting : Bool → Found → Found
+  pickMeeting true f = Nothing
+  pickMeeting false f = f
+
+  unfoldable pub meeting : State T J → ℕ → Side → Edge P → Found
+  meeting s level side e = pickMeeting (room .places .apart (top side e)) (find s level (otherSide side) (top side e))
+
+  unfoldable pub finish : State T J → ℕ → Side → State T J
+  finish s r side = withRows (room .table .finished (s .rows) r side) s
+
+  unfoldable pub free : State T J → ℕ → State T J
+  free s r = withRows (room .table .freed (s .rows) r) s
+
+  -- how an edge of the next level is treated
+  abbrev pub Treatment : Type 0
+  Treatment = State T J → Edge P → State T J
+
+  -- a row that was passed up is freed when its edge is treated
+  abbrev pub thenFree : State T J → ℕ → State T J
+  thenFree s r = afterDone (s .end) s (free s r)
+
+  -- a row with both branches finished is passed up and then freed
+  unfoldable pub passUp : Treatment → State T J → ℕ → State T J
+  passUp next s r = pickState (bothFinished (look s r)) (thenFree (next s (asEdge r (look s r))) r) s
+
+  -- the found row q first, then this row r; once where they are one
+  unfoldable pub passBoth : Treatment → State T J → ℕ → ℕ → State T J
+  passBoth next s q r =
+      pickState (eqb q r) (passUp next s q)
+      (afterDone (passUp next s q .end) (passUp next s q) (passUp next (passUp next s q) r))
+
+  unfoldable pub meet : Treatment → State T J → Side → ℕ → Found → State T J
+  meet next s side r Nothing = s
+  meet next s side r (At q) = passBoth next (finish (finish s q (otherSide side)) r side) q r
+
+  -- steps 2 to 4 on a row
+  unfoldable pub onRow : Treatment → State T J → ℕ → Side → Edge P → ℕ → State T J
+  onRow next s level side e r =
+      afterDone (attach s level side e r .end) (attach s level side e r)
+      (meet next (attach s level side e r) side r (meeting (attach s level side e r) level side e))
+
+  -- step 1 and what follows: the row found, or the lowest free row opened, or no row
+  unfoldable pub inChain : Treatment → State T J → ℕ → Side → Edge P → Found → State T J
+  inChain next s level side e (At r) = onRow next s level side e r
+  inChain next s level side e Nothing =
+      pickState (ltb (lowestFree s) (room .rows))
+      (onRow next (open-row s (lowestFree s) level (bottom side e)) level side e (lowestFree s))
+      (ended NoFreeRow s)
+
+  unfoldable pub stepsOn : Treatment → State T J → ℕ → Side → Edge P → State T J
+  stepsOn next s level side e = inChain next s level side e (find s level side (bottom side e))
+
+  -- an edge of a level with so many levels left above it: equal ends close an outline, otherwise the four steps
+  unfoldable pub treat : ℕ → ℕ → State T J → Edge P → State T J
+  treat zero level s e = pickState (room .places .same (e .tail) (e .head)) (close s level e) (ended Overrun s)
+  treat (suc left) level s e =
+      pickState (room .places .same (e .tail) (e .head)) (close s level e)
+      (stepsOn (treat left (suc level)) s level (sideOf (room .places) e) e)
+
+  -- the first i edges of a list, treated in order at level 0
+  unfoldable pub sweepUp : (ℕ → Edge P) → State T J → ℕ → Sweep T J
+  sweepUp list s zero = record { state = s; edge = 0 }
+  sweepUp list s (suc i) =
+      nextEdge (sweepUp list s i .state .end) (sweepUp list s i) (treat levels 0 (sweepUp list s i .state) (list i)) i
+
+-- an edge of the list at level 0: falling length 0, rising length 1
+abbrev pub listEdge : {P : Type 0} → ℕ → P → P → Edge P
+listEdge i tail head = record { name = i; tail = tail; head = head; length = record { rising = 1; falling = 0 } }
+
+-- before the first edge nothing is written and no row was ever open
+abbrev pub start : {T J : Type 0} → T → J → State T J
+start t j = record { rows = t; journal = j; records = 0; peak = 0; end = Done }

@@ -1,0 +1,111 @@
+//! What the numbers are, with no sweep: the joining rule of document 01 leads
+//! from edge to edge, a closed round is an outline, outlines are numbered from
+//! the highest top down and edges from the one that leaves it. Beside it the
+//! two measures C and L of a list, from which the rows that always suffice
+//! follow. Only for sound lists.
+
+use std::collections::BTreeMap;
+
+use crate::geometry::{Edge, Kind, Point};
+use crate::numbering::Numbering;
+
+/// For each edge the place of the edge that follows it.
+///
+/// # Panics
+/// When the list is not sound.
+pub fn followers(edges: &[Edge]) -> Vec<usize> {
+    let mut leaving = BTreeMap::new();
+    for (place, edge) in edges.iter().enumerate() {
+        leaving.insert((edge.tail, edge.tail_side()), place);
+    }
+    let follower = |edge: &Edge| {
+        let own_side = leaving.get(&(edge.head, edge.head_side()));
+        let other_side = leaving.get(&(edge.head, edge.head_side().other()));
+        *own_side.or(other_side).expect("a sound list")
+    };
+    edges.iter().map(follower).collect()
+}
+
+/// The outlines as lists of places, in the order of their numbers, each from
+/// the edge that leaves its highest point.
+pub fn outlines(edges: &[Edge]) -> Vec<Vec<usize>> {
+    let follower = followers(edges);
+    let mut visited = vec![false; edges.len()];
+    let mut outlines = Vec::new();
+    for start in 0..edges.len() {
+        let mut outline = Vec::new();
+        let mut place = start;
+        while !visited[place] {
+            visited[place] = true;
+            outline.push(place);
+            place = follower[place];
+        }
+        if !outline.is_empty() {
+            outlines.push(from_highest(edges, outline));
+        }
+    }
+    outlines.sort_by_key(|outline| edges[outline[0]].tail);
+    outlines.reverse();
+    outlines
+}
+
+/// The same round, begun at the edge that leaves its highest point.
+fn from_highest(edges: &[Edge], mut outline: Vec<usize>) -> Vec<usize> {
+    let highest = (0..outline.len()).max_by_key(|at| edges[outline[*at]].tail);
+    outline.rotate_left(highest.unwrap_or(0));
+    outline
+}
+
+/// The numbering that the paper declares.
+pub fn numbering(edges: &[Edge]) -> Numbering {
+    let mut numbering = Numbering::blank(edges.len());
+    for outline in outlines(edges) {
+        numbering.count += 1;
+        for (sequence, place) in outline.into_iter().enumerate() {
+            numbering.polygons[place] = numbering.count;
+            numbering.sequences[place] = sequence as u32;
+        }
+    }
+    numbering
+}
+
+/// C: the most edges that pass any one point. An edge passes a point when its
+/// bottom is below the point and its top is not. The most is met at a top.
+pub fn passing(edges: &[Edge]) -> usize {
+    let passes = |point: Point| {
+        let passing = |edge: &&Edge| edge.bottom() < point && edge.top() >= point;
+        edges.iter().filter(passing).count()
+    };
+    let counts = edges.iter().map(|edge| passes(edge.top()));
+    counts.max().unwrap_or(0)
+}
+
+/// L: the number of edges of the longest outline.
+pub fn longest(edges: &[Edge]) -> usize {
+    let lengths = outlines(edges).into_iter().map(|outline| outline.len());
+    lengths.max().unwrap_or(0)
+}
+
+/// A number of rows that always suffices: C times log2 L, rounded down; 0 for
+/// the empty list.
+pub fn sufficient_rows(edges: &[Edge]) -> usize {
+    match longest(edges) {
+        0 => 0,
+        longest => passing(edges) * floor_log2(longest),
+    }
+}
+
+/// How many times a number above 0 can be halved before it is 1.
+fn floor_log2(number: usize) -> usize {
+    (usize::BITS - 1 - number.leading_zeros()) as usize
+}
+
+/// The points at which edges of all four kinds meet, lowest first.
+pub fn touching_points(edges: &[Edge]) -> Vec<Point> {
+    let mut kinds: BTreeMap<Point, Vec<Kind>> = BTreeMap::new();
+    for (point, kind) in edges.iter().flat_map(|edge| edge.ends()) {
+        kinds.entry(point).or_default().push(kind);
+    }
+    let all_four = kinds.into_iter().filter(|(_, kinds)| kinds.len() == 4);
+    all_four.map(|(point, _)| point).collect()
+}

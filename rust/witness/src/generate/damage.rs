@@ -1,0 +1,198 @@
+//! Calls spoilt on purpose: a sound call is changed so that one chosen refusal
+//! of document 01, 1 to 10, must come. Damage of a higher number can be done
+//! first and hidden by damage of a lower one, which shows the order in which
+//! the paper tries them.
+
+use std::collections::BTreeSet;
+
+use crate::call::Call;
+use crate::declared::sufficient_rows;
+use crate::geometry::{read_edges, write_edges, Edge, Point, MOST_EDGES};
+use crate::steps::{sweep_up, NUMBERS_PER_ROW};
+
+use super::{any, Random};
+
+/// A call that must get this refusal, 1 to 10.
+pub fn damaged(random: &mut Random, refusal: u32) -> Call {
+    loop {
+        let sheet = any(random);
+        let rows = sufficient_rows(&read_edges(&sheet));
+        let mut call = Call::fitting(sheet, rows);
+        if damage(random, &mut call, refusal) {
+            return call;
+        }
+    }
+}
+
+/// Changes a call, sound or damaged only with higher numbers, so that it must
+/// get this refusal. `false` when the call offers no place for this damage; it
+/// is then as before.
+pub fn damage(random: &mut Random, call: &mut Call, refusal: u32) -> bool {
+    let has_edges = !call.edges.is_empty();
+    match refusal {
+        1 => part_of_an_edge(random, call),
+        2 => too_many_edges(random, call),
+        3 => wrong_length(random, call),
+        4 => has_edges && short_journal(random, call),
+        5 => has_edges && past_the_range(random, call),
+        6 => has_edges && equal_ends(random, call),
+        7 => out_of_order(random, call),
+        8 => has_edges && kind_taken(random, call),
+        9 => has_edges && open_end(random, call),
+        10 => too_few_rows(random, call),
+        _ => false,
+    }
+}
+
+fn part_of_an_edge(random: &mut Random, call: &mut Call) -> bool {
+    for _ in 0..1 + random.below(3) {
+        call.edges.push(random.between(-3, 3));
+    }
+    true
+}
+
+fn too_many_edges(random: &mut Random, call: &mut Call) -> bool {
+    let length = MOST_EDGES + 1 + random.below(3);
+    let mut edges = read_edges(&call.edges);
+    edges.push(Edge::new(Point::new(0, 0), Point::new(1, 1)));
+    let repeated: Vec<Edge> = edges.iter().copied().cycle().take(length).collect();
+    call.edges = write_edges(&repeated);
+    call.fit();
+    true
+}
+
+fn wrong_length(random: &mut Random, call: &mut Call) -> bool {
+    let length = if random.one_in(2) {
+        &mut call.polygons
+    } else {
+        &mut call.sequences
+    };
+    let longer = *length == 0 || random.one_in(2);
+    *length = match (longer, random.one_in(2)) {
+        (true, true) => *length + 1,
+        (true, false) => *length + 1 + random.below(20),
+        (false, true) => *length - 1,
+        (false, false) => random.below(*length),
+    };
+    true
+}
+
+fn short_journal(random: &mut Random, call: &mut Call) -> bool {
+    call.journal = if random.one_in(2) {
+        call.journal - 1
+    } else {
+        random.below(call.journal)
+    };
+    true
+}
+
+fn past_the_range(random: &mut Random, call: &mut Call) -> bool {
+    let number = random.below(call.edges.len());
+    let past = random.between(Point::LIMIT + 1, i32::MAX);
+    let past = [Point::LIMIT + 1, i32::MAX, past][random.below(3)];
+    call.edges[number] = if random.one_in(2) { past } else { -past };
+    if random.one_in(16) {
+        call.edges[number] = i32::MIN;
+    }
+    true
+}
+
+fn equal_ends(random: &mut Random, call: &mut Call) -> bool {
+    let mut edges = read_edges(&call.edges);
+    let place = random.below(edges.len());
+    let end = [edges[place].tail, edges[place].head][random.below(2)];
+    edges[place] = Edge::new(end, end);
+    call.edges = write_edges(&edges);
+    true
+}
+
+/// Moves an edge to before one that has a lower top.
+fn out_of_order(random: &mut Random, call: &mut Call) -> bool {
+    let mut edges = read_edges(&call.edges);
+    let lower = |place: &usize| edges[0].top() < edges[*place].top();
+    let places: Vec<usize> = (0..edges.len()).filter(lower).collect();
+    if places.is_empty() {
+        return false;
+    }
+    let moved = places[random.below(places.len())];
+    let top = edges[moved].top();
+    let lower_tops = edges.iter().filter(|edge| edge.top() < top).count();
+    let to = random.below(lower_tops);
+    edges[to..=moved].rotate_right(1);
+    call.edges = write_edges(&edges);
+    true
+}
+
+/// Adds an edge that has one end of an edge that is there, and its kind at it;
+/// at times both ends.
+fn kind_taken(random: &mut Random, call: &mut Call) -> bool {
+    let mut edges = read_edges(&call.edges);
+    if edges.len() == MOST_EDGES {
+        return false;
+    }
+    let mut added = edges[random.below(edges.len())];
+    if random.one_in(2) {
+        let bent = bent_bottom(random, added);
+        added = bent.unwrap_or(added);
+    }
+    let place = edges.iter().filter(|edge| edge.top() < added.top()).count();
+    let last = edges
+        .iter()
+        .filter(|edge| edge.top() <= added.top())
+        .count();
+    let place = place + random.below(last - place + 1);
+    edges.insert(place, added);
+    call.edges = write_edges(&edges);
+    call.fit();
+    true
+}
+
+/// Takes an edge away, or moves its bottom to where no edge of its kind is.
+fn open_end(random: &mut Random, call: &mut Call) -> bool {
+    let mut edges = read_edges(&call.edges);
+    let place = random.below(edges.len());
+    let taken: BTreeSet<_> = edges.iter().flat_map(|edge| edge.ends()).collect();
+    let bent = bent_bottom(random, edges[place]).filter(|bent| {
+        let bottom = bent.ends().into_iter().find(|end| end.0 == bent.bottom());
+        bottom.map_or(false, |end| !taken.contains(&end))
+    });
+    match bent {
+        Some(bent) if random.one_in(2) => edges[place] = bent,
+        _ => {
+            edges.remove(place);
+        }
+    }
+    call.edges = write_edges(&edges);
+    call.fit();
+    true
+}
+
+/// The edge with its top left and its bottom moved to a point near by.
+fn bent_bottom(random: &mut Random, edge: Edge) -> Option<Edge> {
+    let bottom = edge.bottom();
+    let x = bottom.x + random.between(-2, 2);
+    let moved = Point::new(x, bottom.y - random.between(0, 2));
+    let bent = if edge.is_up() {
+        Edge::new(moved, edge.head)
+    } else {
+        Edge::new(edge.tail, moved)
+    };
+    let kept = moved != bottom && moved < edge.top() && moved.is_in_range();
+    Some(bent).filter(|_| kept)
+}
+
+/// Lends fewer rows than the sweep up needs; a part of a row does not help.
+fn too_few_rows(random: &mut Random, call: &mut Call) -> bool {
+    let edges = read_edges(&call.edges);
+    let peak = sweep_up(&edges, sufficient_rows(&edges)).map_or(0, |swept| swept.peak);
+    if peak == 0 {
+        return false;
+    }
+    let rows = if random.one_in(2) {
+        peak - 1
+    } else {
+        random.below(peak)
+    };
+    call.rows = NUMBERS_PER_ROW * rows + random.below(NUMBERS_PER_ROW);
+    true
+}

@@ -1,0 +1,70 @@
+//! Three shapes drawn by rule: the comb, with all its highest points side by
+//! side; the spiral, with all its chains inside one another; and the grid of
+//! squares, with many outlines at once. Each can be made as large as a list may
+//! be.
+
+use crate::geometry::{Edge, Point};
+
+use super::sound::closed;
+use super::{in_sweep_order, Random, Sheet};
+
+/// A comb of so many teeth (1 to 1,024), four edges a tooth, standing up or
+/// hanging down, its teeth of random lengths or all of one.
+pub fn comb(random: &mut Random, teeth: usize) -> Sheet {
+    let (hanging, longest) = (random.one_in(2), random.between(2, 9));
+    let even = random.one_in(2);
+    let teeth = teeth as i32;
+    let mut corners = vec![Point::new(0, 0), Point::new(2 * teeth - 1, 0)];
+    for tooth in (0..teeth).rev() {
+        let shortest = if even { longest } else { 2 };
+        let end = random.between(shortest, longest);
+        corners.push(Point::new(2 * tooth + 1, end));
+        corners.push(Point::new(2 * tooth, end));
+        if tooth > 0 {
+            corners.push(Point::new(2 * tooth, 1));
+            corners.push(Point::new(2 * tooth - 1, 1));
+        }
+    }
+    if hanging {
+        for corner in &mut corners {
+            corner.y = -corner.y;
+        }
+    }
+    in_sweep_order(random, closed(&corners))
+}
+
+/// A band wound into a spiral with so many corners on each of its two sides (1
+/// to 2,048); two edges a corner.
+pub fn spiral(random: &mut Random, corners: usize) -> Sheet {
+    let corner = |turn: usize, further: i32| {
+        let away = 4 * turn as i32 + further;
+        match turn % 4 {
+            0 => Point::new(away, -away),
+            1 => Point::new(away, away),
+            2 => Point::new(-away, away),
+            _ => Point::new(-away, -away),
+        }
+    };
+    let outer = (0..corners).map(|turn| corner(turn, 12));
+    let inner = (0..corners).rev().map(|turn| corner(turn, 4));
+    let band: Vec<Point> = outer.chain(inner).collect();
+    in_sweep_order(random, closed(&band))
+}
+
+/// A grid of squares that do not touch, four edges a square, up to 1,024.
+pub fn squares(random: &mut Random, columns: usize, rows: usize) -> Sheet {
+    let side = random.between(1, 3);
+    let step = side + random.between(1, 3);
+    let mut edges: Vec<Edge> = Vec::new();
+    for square in 0..columns * rows {
+        let x = step * (square % columns) as i32;
+        let y = step * (square / columns) as i32;
+        edges.extend(closed(&[
+            Point::new(x, y),
+            Point::new(x + side, y),
+            Point::new(x + side, y + side),
+            Point::new(x, y + side),
+        ]));
+    }
+    in_sweep_order(random, edges)
+}

@@ -1,0 +1,194 @@
+//! The reader of vector files: blocks from `case ID OP` to `end`, each one call
+//! with all that must be seen after it. The cases come out typed, with what the
+//! file abbreviates (`untouched`, `zeros`, `empty`) written in full, so that
+//! they can be held against any engine.
+
+use std::collections::BTreeMap;
+use std::str::FromStr;
+
+use crate::call::{Call, Outcome, TurnCall, TurnOutcome};
+use crate::checks::Refusal;
+use crate::json::string_bytes;
+use crate::number::Answer;
+use crate::turns::TurnAnswer;
+
+/// One case of a vector file.
+#[derive(Clone, PartialEq, Eq, Debug)]
+pub struct Case {
+    /// Its name in the file.
+    pub id: String,
+    /// What is done and what must come of it.
+    pub work: Work,
+}
+
+/// What a case does.
+#[derive(Clone, PartialEq, Eq, Debug)]
+pub enum Work {
+    /// A numbering call and its outcome.
+    Number(Call, Outcome),
+    /// A turn list call and its outcome.
+    Turns(TurnCall, TurnOutcome),
+    /// The program's input and output.
+    Program(Vec<u8>, Vec<u8>),
+}
+
+/// Reads a whole vector file. `Err` says which case is not understood and why.
+pub fn read_cases(text: &str) -> Result<Vec<Case>, String> {
+    let mut cases = Vec::new();
+    let mut lines = text.lines();
+    while let Some(line) = lines.next() {
+        let words: Vec<&str> = line.split(' ').collect();
+        if words.len() != 3 || words[0] != "case" {
+            return Err(format!("no start of a case: {:?}", line));
+        }
+        let (id, operation) = (words[1].to_string(), words[2]);
+        let block = Block::read(&mut lines).and_then(|block| block.work(operation));
+        let work = block.map_err(|reason| format!("case {}: {}", id, reason))?;
+        cases.push(Case { id, work });
+    }
+    Ok(cases)
+}
+
+/// The lines of one block, looked up by how they begin.
+struct Block<'a> {
+    lines: BTreeMap<&'a str, &'a str>,
+}
+
+impl<'a> Block<'a> {
+    /// Reads up to `end`. `in`, `lent` and `out` lines begin with two words,
+    /// the others with one; no two lines may begin alike.
+    fn read(lines: &mut std::str::Lines<'a>) -> Result<Block<'a>, String> {
+        let mut block = BTreeMap::new();
+        for line in lines {
+            if line == "end" {
+                return Ok(Block { lines: block });
+            }
+            let word = line.split(' ').next().unwrap_or(line);
+            let words = match word {
+                "in" | "lent" | "out" => 2,
+                _ => 1,
+            };
+            let spaces = line.match_indices(' ').map(|(at, _)| at);
+            let end = spaces.skip(words - 1).chain([line.len()]).next();
+            let (begin, rest) = line.split_at(end.unwrap_or(line.len()));
+            let rest = rest.strip_prefix(' ').unwrap_or(rest);
+            if block.insert(begin, rest).is_some() {
+                return Err(format!("two lines begin with {:?}", begin));
+            }
+        }
+        Err("no end".to_string())
+    }
+
+    fn work(&self, operation: &str) -> Result<Work, String> {
+        match operation {
+            "number" => self.number(),
+            "turns" => self.turns(),
+            "program" => Ok(Work::Program(
+                string_bytes(self.rest("input")?)?,
+                string_bytes(self.rest("output")?)?,
+            )),
+            other => Err(format!("unknown operation {:?}", other)),
+        }
+    }
+
+    fn number(&self) -> Result<Work, String> {
+        let call = Call {
+            edges: self.list("in edges")?,
+            polygons: self.one("lent poly")?,
+            sequences: self.one("lent seq")?,
+            journal: self.one("lent journal")?,
+            rows: self.one("lent rows")?,
+            fill: self.one("fill")?,
+        };
+        let fill = call.fill;
+        let outcome = Outcome {
+            answer: self.answer()?,
+            polygons: self.slice("out poly", call.polygons, fill as u32)?,
+            sequences: self.slice("out seq", call.sequences, fill as u32)?,
+            journal: self.slice("out journal", call.journal, fill)?,
+            rows: self.slice("out rows", call.rows, fill)?,
+        };
+        Ok(Work::Number(call, outcome))
+    }
+
+    fn turns(&self) -> Result<Work, String> {
+        let call = TurnCall {
+            polygons: self.list("in poly")?,
+            sequences: self.list("in seq")?,
+            turns: self.one("lent turn")?,
+            fill: self.one("fill")?,
+        };
+        let answer = match self.refusal()? {
+            Some(refusal) => TurnAnswer::Refused(refusal),
+            None => TurnAnswer::Accepted {
+                polygons: self.one("accepted")?,
+            },
+        };
+        let turns = self.slice("out turn", call.turns, call.fill)?;
+        Ok(Work::Turns(call, TurnOutcome { answer, turns }))
+    }
+
+    /// The answer to a numbering call.
+    fn answer(&self) -> Result<Answer, String> {
+        if let Some(refusal) = self.refusal()? {
+            return Ok(Answer::Refused(refusal));
+        }
+        match self.list("accepted")?[..] {
+            [polygons, peak, records] => Ok(Answer::Accepted {
+                polygons,
+                peak,
+                records,
+            }),
+            _ => Err("not three numbers accepted".to_string()),
+        }
+    }
+
+    /// The refusal, if the case expects one.
+    fn refusal(&self) -> Result<Option<Refusal>, String> {
+        if !self.lines.contains_key("refused") {
+            return Ok(None);
+        }
+        match self.list("refused")?[..] {
+            [number, place] => Ok(Some(Refusal { number, place })),
+            _ => Err("not two numbers refused".to_string()),
+        }
+    }
+
+    /// What a lent slice of this length must hold after the call.
+    fn slice<T>(&self, begin: &str, length: usize, fill: T) -> Result<Vec<T>, String>
+    where
+        T: FromStr + Clone + Default,
+    {
+        let slice = match self.rest(begin)? {
+            "untouched" => vec![fill; length],
+            "zeros" => vec![T::default(); length],
+            _ => self.list(begin)?,
+        };
+        if slice.len() == length {
+            Ok(slice)
+        } else {
+            Err(format!("{:?} has not the length lent", begin))
+        }
+    }
+
+    fn list<T: FromStr>(&self, begin: &str) -> Result<Vec<T>, String> {
+        let rest = self.rest(begin)?;
+        if rest == "empty" {
+            return Ok(Vec::new());
+        }
+        rest.split(' ').map(read_number).collect()
+    }
+
+    fn one<T: FromStr>(&self, begin: &str) -> Result<T, String> {
+        read_number(self.rest(begin)?)
+    }
+
+    fn rest(&self, begin: &str) -> Result<&'a str, String> {
+        let rest = self.lines.get(begin).copied();
+        rest.ok_or_else(|| format!("no line begins with {:?}", begin))
+    }
+}
+
+fn read_number<T: FromStr>(word: &str) -> Result<T, String> {
+    word.parse().map_err(|_| format!("bad number {:?}", word))
+}
