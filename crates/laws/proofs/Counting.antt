@@ -114,3 +114,14 @@ count-other p n i l e h = (v .0, v .1, other, sym (without-there p i (v .0) othe
 
     other : v .0 ≡ i → ⊥
     other q = not-both (v .2) (without-here p i (v .0) q)
+
+-- one fails
+pub count-less : (p : ℕ → Bool) (n k : ℕ) → k < n → p k ≡ false → count p n < n
+unfolding count
+count-less p zero k l e = absurd (omega arith)
+count-less p (suc n) k l e = ⊎-elim (λ h. omega (arith, count-less p n k h e, bit-le (p n))) last (lt-or-le k n)
+  where
+    last : n ≤ k → bit (p n) + count p n < suc n
+    last h =
+        let q : n ≡ k = omega arith in
+        omega (arith, ap (λ i. bit (p i)) q, ap bit e, count-le p n)

@@ -1,0 +1,384 @@
+-- Two rooms that hold the same run alike: whatever places, tables and journals are made of, as long as places compare alike, rows look alike after
+-- each write and records are kept, every step in one room has its like in the other. So what is shown of plain tables holds of slices.
+use mathlib.Core.Path.{_≡_, refl, sym, ap, _∙_}
+use mathlib.Core.Bool.{Bool, true, false, cond, not, _&&_}
+use Prim.Native.Nat.{ℕ, zero, suc, _+_, max, _≤_, _<_}
+use native.Mathlib.Omega.{arith}
+use lib.Dec.{eqb, ltb, leb}
+use borrow.Author.Tests.{ltb-true}
+use Rattle.laws.proofs.Deciding.{not-both, both-true}
+use Rattle.laws.specs.Counting.{count, first}
+use Rattle.laws.proofs.Counting.{count-same}
+use Rattle.laws.proofs.First.{first-same, first-le}
+use Rattle.steps.specs.declared.Side.{Side}
+use Rattle.steps.specs.declared.Side.the-variants.{Rising, Falling}
+use Rattle.steps.specs.declared.Found.{Found}
+use Rattle.steps.specs.declared.Found.the-variants.{At, Nothing}
+use Rattle.steps.specs.declared.End.{End}
+use Rattle.steps.specs.declared.End.the-variants.{Done, NoFreeRow, Overrun}
+use Rattle.steps.specs.Rows.{otherSide, Both, on, Branch, Row, Chain, inRow, closing, Record, Edge, Places, Room}
+use Rattle.steps.specs.SweepUp as up
+use Rattle.steps.proofs.Peak.{peak-by-name}
+use Rattle.steps.specs.SweepUp.{State, Sweep, hasTip, asEdge, bothFinished, bottom, top, sideOf, sideTest, longer, chainRecord, foundBelow, mostLength}
+
+module _ {P P′ : Type 0} (R : P → P′ → Type 0) where
+  pub record AlikeBranch (b : Branch P) (b′ : Branch P′) : Type 0 where
+    pub tip : R (b .tip) (b′ .tip)
+    pub length : b .length ≡ b′ .length
+    pub finished : b .finished ≡ b′ .finished
+
+  pub record AlikeRow (row : Row P) (row′ : Row P′) : Type 0 where
+    pub used : row .used ≡ row′ .used
+    pub level : row .level ≡ row′ .level
+    pub branch : (s : Side) → AlikeBranch (on s (row .branch)) (on s (row′ .branch))
+
+  pub record AlikeEdge (most : ℕ) (e : Edge P) (e′ : Edge P′) : Type 0 where
+    pub name : e .name ≡ e′ .name
+    pub small : e .name ≤ most
+    pub tail : R (e .tail) (e′ .tail)
+    pub head : R (e .head) (e′ .head)
+    pub length : e .length ≡ e′ .length
+
+-- a record whose numbers are small
+abbrev pub SmallChain : ℕ → Chain → Type 0
+SmallChain most (inRow r) = r ≤ most
+SmallChain most closing = 0 ≤ most
+
+pub record SmallRecord (most : ℕ) (entry : Record) : Type 0 where
+  pub level : entry .level ≤ 12
+  pub name : entry .name ≤ most
+  pub chain : SmallChain most (entry .chain)
+
+-- The rooms match: R relates places, Rows relates tables, Kept relates journals with their first k records. Names up to `most` are kept.
+pub record Match {P T J P′ T′ J′ : Type 0} (room : Room P T J) (room′ : Room P′ T′ J′) (R : P → P′ → Type 0) (Rows : T → T′ → Type 0) (Kept : ℕ → J → J′ → Type 0) (most : ℕ) : Type 0 where
+  pub same : {p q : P} {p′ q′ : P′} → R p p′ → R q q′ → room .places .same p q ≡ room′ .places .same p′ q′
+  pub below : {p q : P} {p′ q′ : P′} → R p p′ → R q q′ → room .places .below p q ≡ room′ .places .below p′ q′
+  pub apart : {p : P} {p′ : P′} → R p p′ → room .places .apart p ≡ room′ .places .apart p′
+  pub look : {t : T} {t′ : T′} → Rows t t′ → (r : ℕ) → r < room .rows → AlikeRow R (room .table .look t r) (room′ .table .look t′ r)
+  pub opened : {t : T} {t′ : T′} {p : P} {p′ : P′} → Rows t t′ → R p p′ → (r level : ℕ) → r < room .rows → Rows (room .table .opened t r level p) (room′ .table .opened t′ r level p′)
+  pub moved : {t : T} {t′ : T′} {p : P} {p′ : P′} → Rows t t′ → R p p′ → (r : ℕ) (s : Side) (n : ℕ) → r < room .rows → Rows (room .table .moved t r s p n) (room′ .table .moved t′ r s p′ n)
+  pub finished : {t : T} {t′ : T′} → Rows t t′ → (r : ℕ) (s : Side) → r < room .rows → Rows (room .table .finished t r s) (room′ .table .finished t′ r s)
+  pub freed : {t : T} {t′ : T′} → Rows t t′ → (r : ℕ) → r < room .rows → Rows (room .table .freed t r) (room′ .table .freed t′ r)
+  pub written : {j : J} {j′ : J′} {k : ℕ} {entry : Record} → Kept k j j′ → k < room .records → SmallRecord most entry → Kept (k + 1) (room .journal .written j k entry) (room′ .journal .written j′ k entry)
+  pub rows : room .rows ≡ room′ .rows
+  pub records : room .records ≡ room′ .records
+  pub names : room .records ≤ most
+
+module _ {P T J P′ T′ J′ : Type 0} {room : Room P T J} {room′ : Room P′ T′ J′} {R : P → P′ → Type 0} {Rows : T → T′ → Type 0} {Kept : ℕ → J → J′ → Type 0} {most : ℕ} (M : Match room room′ R Rows Kept most) where
+  -- two states alike, with room to spare: the peak is at most d more than the records
+  pub record Alike (d : ℕ) (s : State T J) (s′ : State T′ J′) : Type 0 where
+    pub rows : Rows (s .rows) (s′ .rows)
+    pub journal : Kept (s .records) (s .journal) (s′ .journal)
+    pub records : s .records ≡ s′ .records
+    pub peak : s .peak ≡ s′ .peak
+    pub end : s .end ≡ s′ .end
+    pub named : s .peak ≤ room .rows
+    pub kept : s .records ≤ room .records
+    pub little : s .end ≡ Done → s .peak ≤ s .records + d
+
+  module _ {d : ℕ} {s : State T J} {s′ : State T′ J′} (A : Alike d s s′) where
+    look-alike : (r : ℕ) → r < s .peak → AlikeRow R (up.look room s r) (up.look room′ s′ r)
+    look-alike r l = M .look (A .rows) r (omega (arith, A .named))
+
+    tip-alike : (level : ℕ) (side : Side) {p : P} {p′ : P′} → R p p′ → (r : ℕ) → r < s .peak → hasTip (room .places) level side p (up.look room s r) ≡ hasTip (room′ .places) level side p′ (up.look room′ s′ r)
+    unfolding hasTip
+    tip-alike level side h r l =
+        let a = look-alike r l in
+        let b = a .branch side in
+        rw (a .used, a .level, b .finished, M .same (b .tip) h)
+
+    find-alike : (level : ℕ) (side : Side) {p : P} {p′ : P′} → R p p′ → up.find room s level side p ≡ up.find room′ s′ level side p′
+    unfolding up.find foundBelow
+    find-alike level side h = rw (first-same _ _ (s .peak) (tip-alike level side h), A .peak)
+
+    lowest-alike : up.lowestFree room s ≡ up.lowestFree room′ s′
+    unfolding up.lowestFree
+    lowest-alike = rw (first-same _ _ (s .peak) (λ r l. ap not (look-alike r l .used)), A .peak)
+
+    in-use-alike : up.inUse room s ≡ up.inUse room′ s′
+    unfolding up.inUse
+    in-use-alike = rw (count-same _ _ (s .peak) (λ r l. look-alike r l .used), A .peak)
+
+  weaken : {d d′ : ℕ} {s : State T J} {s′ : State T′ J′} → d ≤ d′ → Alike d s s′ → Alike d′ s s′
+  weaken l A = record {
+    rows = A .rows;
+    journal = A .journal;
+    records = A .records;
+    peak = A .peak;
+    end = A .end;
+    named = A .named;
+    kept = A .kept;
+    little = λ e. omega (arith, l, A .little e);
+  }
+
+  -- the same state with other rows
+  with-rows : {d : ℕ} {s : State T J} {s′ : State T′ J′} {t : T} {t′ : T′} → Rows t t′ → Alike d s s′ → Alike d (up.withRows t s) (up.withRows t′ s′)
+  with-rows h A = record {
+    rows = h;
+    journal = A .journal;
+    records = A .records;
+    peak = A .peak;
+    end = A .end;
+    named = A .named;
+    kept = A .kept;
+    little = A .little;
+  }
+
+  -- a state that ended early
+  end-early : {d : ℕ} {s : State T J} {s′ : State T′ J′} (x : End) → (x ≡ Done → ⊥) → Alike d s s′ → Alike 0 (up.ended x s) (up.ended x s′)
+  end-early x n A = record {
+    rows = A .rows;
+    journal = A .journal;
+    records = A .records;
+    peak = A .peak;
+    end = refl;
+    named = A .named;
+    kept = A .kept;
+    little = λ e. absurd (n e);
+  }
+
+  by-name : (s : State T J) → max (s .peak) (up.inUse room s + 1) ≡ max (s .peak) (up.lowestFree room s + 1)
+  unfolding up.inUse up.lowestFree
+  by-name s = peak-by-name (λ r. up.look room s r .used) (s .peak)
+
+  lowest-up-to : (s : State T J) → up.lowestFree room s ≤ s .peak
+  unfolding up.lowestFree
+  lowest-up-to s = first-le _ (s .peak)
+
+  open-alike : {s : State T J} {s′ : State T′ J′} (A : Alike 0 s s′) (level : ℕ) {p : P} {p′ : P′} → R p p′ → s .end ≡ Done → up.lowestFree room s < room .rows → Alike 1 (up.open-row room s (up.lowestFree room s) level p) (up.open-row room′ s′ (up.lowestFree room s) level p′)
+  unfolding up.open-row
+  open-alike {s} A level h done l =
+      record {
+        rows = M .opened (A .rows) h _ level l;
+        journal = A .journal;
+        records = A .records;
+        peak = λ i. max (A .peak i) (in-use-alike A i + 1);
+        end = A .end;
+        named = omega (arith, A .named, l, by-name s);
+        kept = A .kept;
+        little = λ e. omega (arith, A .little done, lowest-up-to s, by-name s);
+      }
+
+  open-records : (s : State T J) (r level : ℕ) (p : P) → up.open-row room s r level p .records ≡ s .records
+  unfolding up.open-row
+  open-records s r level p = refl
+
+  -- steps 2 and 3
+  chain-record-alike : (level : ℕ) (side : Side) {row : Row P} {row′ : Row P′} {e : Edge P} {e′ : Edge P′} (r : ℕ) → AlikeRow R row row′ → AlikeEdge R most e e′ → up.chainRecord room level side row e r ≡ up.chainRecord room′ level side row′ e′ r
+  chain-record-alike level side r a h = λ i.
+      record {
+        level = level;
+        name = h .name i;
+        chain = inRow r;
+        offset = up.signed side (a .branch side .length i + on (otherSide side) (h .length i));
+      }
+
+  longer-alike : (side : Side) {row : Row P} {row′ : Row P′} {e : Edge P} {e′ : Edge P′} → AlikeRow R row row′ → AlikeEdge R most e e′ → up.longer room side row e ≡ up.longer room′ side row′ e′
+  longer-alike side a h = λ i. a .branch side .length i + h .length i .falling + h .length i .rising
+
+  top-alike : (side : Side) {e : Edge P} {e′ : Edge P′} → AlikeEdge R most e e′ → R (top side e) (top side e′)
+  top-alike Rising h = h .head
+  top-alike Falling h = h .tail
+
+  bottom-alike : (side : Side) {e : Edge P} {e′ : Edge P′} → AlikeEdge R most e e′ → R (bottom side e) (bottom side e′)
+  bottom-alike Rising h = h .tail
+  bottom-alike Falling h = h .head
+
+  write-alike : {s : State T J} {s′ : State T′ J′} → Alike 1 s s′ → {entry entry′ : Record} → entry ≡ entry′ → s .records < room .records → SmallRecord most entry → Alike 0 (up.write room s entry) (up.write room′ s′ entry′)
+  unfolding up.write
+  write-alike {s} {s′} A {entry} h l m =
+      record {
+        rows = A .rows;
+        journal = rw (← h, ← A .records) (M .written (A .journal) l m);
+        records = λ i. A .records i + 1;
+        peak = A .peak;
+        end = A .end;
+        named = A .named;
+        kept = omega arith;
+        little = λ e. omega (arith, A .little e);
+      }
+
+  move-alike : {s : State T J} {s′ : State T′ J′} {p : P} {p′ : P′} {n n′ : ℕ} → Alike 0 s s′ → (r : ℕ) (side : Side) → R p p′ → n ≡ n′ → r < room .rows → Alike 0 (up.move room s r side p n) (up.move room′ s′ r side p′ n′)
+  unfolding up.move
+  move-alike A r side h e l = rw (← e) (with-rows (M .moved (A .rows) h r side _ l) A)
+
+  -- a choice between states, made alike
+  pick-alike : {d : ℕ} (t t′ : Bool) → t ≡ t′ → {x y : State T J} {x′ y′ : State T′ J′} → (t ≡ true → Alike d x x′) → (t ≡ false → Alike d y y′) → Alike d (up.pickState t x y) (up.pickState t′ x′ y′)
+  pick-alike true true e f g = f refl
+  pick-alike true false e f g = absurd (not-both refl e)
+  pick-alike false true e f g = absurd (not-both refl (sym e))
+  pick-alike false false e f g = g refl
+
+  overrun : {d : ℕ} {s : State T J} {s′ : State T′ J′} → Alike d s s′ → Alike 0 (up.ended Overrun s) (up.ended Overrun s′)
+  overrun A = end-early Overrun (λ x. let z : _≡_ {A = ℕ} 0 1 = cc in omega arith) A
+
+  attach-alike : {s : State T J} {s′ : State T′ J′} → Alike 1 s s′ → (level : ℕ) → level ≤ 12 → (side : Side) {e : Edge P} {e′ : Edge P′} → AlikeEdge R most e e′ → (r : ℕ) → r < room .rows → r ≤ s .records → Alike 0 (up.attach room s level side e r) (up.attach room′ s′ level side e′ r)
+  unfolding up.attach
+  attach-alike {s} {s′} A level lv side {e} {e′} h r rl rr =
+      let a = M .look (A .rows) r rl in
+      let b = chain-record-alike level side r a h in
+      let n = longer-alike side a h in
+      pick-alike _ _ (λ i. ltb (A .records i) (M .records i) && leb (n i) mostLength)
+      (λ q. let l = ltb-true _ _ (both-true (ltb (s .records) (room .records)) _ q .0) in
+      move-alike (write-alike A b l (record { level = lv; name = h .small; chain = omega (arith, rr, l, M .names) })) r side (top-alike side h) n rl)
+      (λ q. overrun A)
+
+  close-alike : {s : State T J} {s′ : State T′ J′} → Alike 0 s s′ → (level : ℕ) → level ≤ 12 → {e : Edge P} {e′ : Edge P′} → AlikeEdge R most e e′ → Alike 0 (up.close room s level e) (up.close room′ s′ level e′)
+  unfolding up.close
+  close-alike {s} A level lv {e} h =
+      pick-alike _ _ (λ i. ltb (A .records i) (M .records i))
+      (λ q. write-alike (weaken (omega arith) A) (λ i. record { level = level; name = h .name i; chain = closing; offset = lib.IntN.pos (h .length i .falling) }) (ltb-true _ _ q) (record { level = lv; name = h .small; chain = omega arith }))
+      (λ q. overrun A)
+
+  -- step 4
+  meeting-alike : {s : State T J} {s′ : State T′ J′} → Alike 0 s s′ → (level : ℕ) (side : Side) {e : Edge P} {e′ : Edge P′} → AlikeEdge R most e e′ → up.meeting room s level side e ≡ up.meeting room′ s′ level side e′
+  unfolding up.meeting
+  meeting-alike A level side h = λ i. up.pickMeeting room (M .apart (top-alike side h) i) (find-alike A level (otherSide side) (top-alike side h) i)
+
+  finish-alike : {s : State T J} {s′ : State T′ J′} → Alike 0 s s′ → (r : ℕ) (side : Side) → r < room .rows → Alike 0 (up.finish room s r side) (up.finish room′ s′ r side)
+  unfolding up.finish
+  finish-alike A r side l = with-rows (M .finished (A .rows) r side l) A
+
+  free-alike : {s : State T J} {s′ : State T′ J′} → Alike 0 s s′ → (r : ℕ) → r < room .rows → Alike 0 (up.free room s r) (up.free room′ s′ r)
+  unfolding up.free
+  free-alike A r l = with-rows (M .freed (A .rows) r l) A
+
+  -- going on after a treatment
+  after-alike : {x : State T J} {x′ : State T′ J′} → Alike 0 x x′ → {y : State T J} {y′ : State T′ J′} → (x .end ≡ Done → Alike 0 y y′) → Alike 0 (up.afterDone (x .end) x y) (up.afterDone (x′ .end) x′ y′)
+  after-alike {x} {x′} A {y} {y′} f = by (x .end) (x′ .end) (A .end) f
+    where
+      by : (u u′ : End) → u ≡ u′ → (u ≡ Done → Alike 0 y y′) → Alike 0 (up.afterDone u x y) (up.afterDone u′ x′ y′)
+      by Done Done e g = g refl
+      by NoFreeRow NoFreeRow e g = A
+      by Overrun Overrun e g = A
+      by Done NoFreeRow e g = let z : _≡_ {A = ℕ} 0 1 = cc in absurd (omega arith)
+      by Done Overrun e g = let z : _≡_ {A = ℕ} 0 1 = cc in absurd (omega arith)
+      by NoFreeRow Done e g = let z : _≡_ {A = ℕ} 0 1 = cc in absurd (omega arith)
+      by NoFreeRow Overrun e g = let z : _≡_ {A = ℕ} 0 1 = cc in absurd (omega arith)
+      by Overrun Done e g = let z : _≡_ {A = ℕ} 0 1 = cc in absurd (omega arith)
+      by Overrun NoFreeRow e g = let z : _≡_ {A = ℕ} 0 1 = cc in absurd (omega arith)
+
+  -- a row found is below the peak
+  found-below : (test : ℕ → Bool) (n q : ℕ) → foundBelow test n ≡ At q → q < n
+  unfolding foundBelow
+  found-below test n q h = by (ltb (first test n) n) refl h
+    where
+      by : (t : Bool) → ltb (first test n) n ≡ t → up.pickFound t (first test n) ≡ At q → q < n
+      by true e u = let v : first test n ≡ q = cc in omega (arith, v, ltb-true (first test n) n e)
+      by false e u = let z : _≡_ {A = ℕ} 0 1 = cc in absurd (omega arith)
+
+  found-in-time : (s : State T J) (level : ℕ) (side : Side) (p : P) (q : ℕ) → up.find room s level side p ≡ At q → q < s .peak
+  unfolding up.find
+  found-in-time s level side p q h = found-below _ (s .peak) q h
+
+  found-small : {s : State T J} {s′ : State T′ J′} → Alike 0 s s′ → s .end ≡ Done → (level : ℕ) (side : Side) (e : Edge P) (q : ℕ) → up.meeting room s level side e ≡ At q → (q < room .rows) × (q ≤ most)
+  unfolding up.meeting up.find
+  found-small {s} A done level side e q h = by (room .places .apart (top side e)) h
+    where
+      by : (t : Bool) → up.pickMeeting room t (foundBelow (λ r. hasTip (room .places) level (otherSide side) (top side e) (up.look room s r)) (s .peak)) ≡ At q → (q < room .rows) × (q ≤ most)
+      by true u = let z : _≡_ {A = ℕ} 0 1 = cc in absurd (omega arith)
+      by false u = let l = found-below _ (s .peak) q u in (omega (arith, l, A .named), omega (arith, l, A .little done, A .kept, M .names))
+
+  edge-alike : (r : ℕ) {row : Row P} {row′ : Row P′} → r ≤ most → AlikeRow R row row′ → AlikeEdge R most (asEdge r row) (asEdge r row′)
+  unfolding asEdge
+  edge-alike r l a =
+      record {
+        name = refl;
+        small = l;
+        tail = a .branch Falling .tip;
+        head = a .branch Rising .tip;
+        length = λ i. record { rising = a .branch Rising .length i; falling = a .branch Falling .length i };
+      }
+
+  -- the next level is treated alike
+  module _ (next : up.Treatment room) (next′ : up.Treatment room′) (alike : (s : State T J) (s′ : State T′ J′) (e : Edge P) (e′ : Edge P′) → Alike 0 s s′ → s .end ≡ Done → AlikeEdge R most e e′ → Alike 0 (next s e) (next′ s′ e′)) where
+    pass-up-alike : {s : State T J} {s′ : State T′ J′} → Alike 0 s s′ → s .end ≡ Done → (r : ℕ) → r < room .rows → r ≤ most → Alike 0 (up.passUp room next s r) (up.passUp room′ next′ s′ r)
+    unfolding up.passUp
+    pass-up-alike {s} {s′} A done r l m =
+        let a = M .look (A .rows) r l in
+        pick-alike _ _ (λ i. a .branch Rising .finished i && a .branch Falling .finished i)
+        (λ q. let B = alike s s′ _ _ A done (edge-alike r m a) in after-alike B (λ u. free-alike B r l))
+        (λ q. A)
+
+    pass-both-alike : {s : State T J} {s′ : State T′ J′} → Alike 0 s s′ → s .end ≡ Done → (q r : ℕ) → q < room .rows → q ≤ most → r < room .rows → r ≤ most → Alike 0 (up.passBoth room next s q r) (up.passBoth room′ next′ s′ q r)
+    unfolding up.passBoth
+    pass-both-alike A done q r ql qm rl rm =
+        let B = pass-up-alike A done q ql qm in
+        pick-alike (eqb q r) (eqb q r) refl (λ u. B) (λ u. after-alike B (λ v. pass-up-alike B v r rl rm))
+
+    meet-alike : {s : State T J} {s′ : State T′ J′} → Alike 0 s s′ → s .end ≡ Done → (side : Side) (r : ℕ) → r < room .rows → r ≤ most → (f : Found) → ((q : ℕ) → f ≡ At q → (q < room .rows) × (q ≤ most)) → Alike 0 (up.meet room next s side r f) (up.meet room′ next′ s′ side r f)
+    unfolding up.meet up.finish
+    meet-alike A done side r l m Nothing g = A
+    meet-alike A done side r l m (At q) g =
+        let b = g q refl in
+        pass-both-alike (finish-alike (finish-alike A q (otherSide side) (b .0)) r side l) done q r (b .0) (b .1) l m
+
+    on-row-alike : {s : State T J} {s′ : State T′ J′} → Alike 1 s s′ → (level : ℕ) → level ≤ 12 → (side : Side) {e : Edge P} {e′ : Edge P′} → AlikeEdge R most e e′ → (r : ℕ) → r < room .rows → r ≤ s .records → Alike 0 (up.onRow room next s level side e r) (up.onRow room′ next′ s′ level side e′ r)
+    unfolding up.onRow
+    on-row-alike {s} {s′} A level lv side {e} {e′} h r l m =
+        let B = attach-alike A level lv side h r l m in
+        let f = meeting-alike B level side h in
+        after-alike B (λ done. rw (← f) (meet-alike B done side r l (omega (arith, m, A .kept, M .names)) (up.meeting room (up.attach room s level side e r) level side e) (λ q u. found-small B done level side e q u)))
+
+    -- step 1: the row found, or the lowest free one opened, or none
+    in-chain-alike : {s : State T J} {s′ : State T′ J′} → Alike 0 s s′ → s .end ≡ Done → (level : ℕ) → level ≤ 12 → (side : Side) {e : Edge P} {e′ : Edge P′} → AlikeEdge R most e e′ → (f : Found) → ((q : ℕ) → f ≡ At q → q < s .peak) → Alike 0 (up.inChain room next s level side e f) (up.inChain room′ next′ s′ level side e′ f)
+    unfolding up.inChain
+    in-chain-alike A done level lv side h (At r) g =
+        let l = g r refl in
+        on-row-alike (weaken (omega arith) A) level lv side h r (omega (arith, l, A .named)) (omega (arith, l, A .little done))
+    in-chain-alike {s} {s′} A done level lv side {e} {e′} h Nothing g = rw (← lowest-alike A) (pick-alike (ltb low (room .rows)) (ltb low (room′ .rows)) (λ i. ltb low (M .rows i)) opens (λ u. none))
+      where
+        low : ℕ
+        low = up.lowestFree room s
+
+        opens : ltb low (room .rows) ≡ true → Alike 0 (up.onRow room next (up.open-row room s low level (bottom side e)) level side e low) (up.onRow room′ next′ (up.open-row room′ s′ low level (bottom side e′)) level side e′ low)
+        opens t =
+            let l = ltb-true low (room .rows) t in
+            let B = open-alike A level (bottom-alike side h) done l in
+            on-row-alike B level lv side h low l (omega (arith, lowest-up-to s, A .little done, open-records s low level (bottom side e)))
+
+        none : Alike 0 (up.ended NoFreeRow s) (up.ended NoFreeRow s′)
+        none = end-early NoFreeRow (λ x. let z : _≡_ {A = ℕ} 0 1 = cc in omega arith) A
+
+    steps-alike : {s : State T J} {s′ : State T′ J′} → Alike 0 s s′ → s .end ≡ Done → (level : ℕ) → level ≤ 12 → (side : Side) {e : Edge P} {e′ : Edge P′} → AlikeEdge R most e e′ → Alike 0 (up.stepsOn room next s level side e) (up.stepsOn room′ next′ s′ level side e′)
+    unfolding up.stepsOn
+    steps-alike {s} A done level lv side {e} h =
+        rw (← find-alike A level side (bottom-alike side h)) (in-chain-alike A done level lv side h (up.find room s level side (bottom side e)) (found-in-time s level side (bottom side e)))
+
+  side-alike : {e : Edge P} {e′ : Edge P′} → AlikeEdge R most e e′ → sideOf (room .places) e ≡ sideOf (room′ .places) e′
+  side-alike h = λ i. sideTest (M .below (h .tail) (h .head) i)
+
+  -- every treatment is alike, by the levels left
+  treat-alike : (left level : ℕ) → level + left ≤ 12 → (s : State T J) (s′ : State T′ J′) (e : Edge P) (e′ : Edge P′) → Alike 0 s s′ → s .end ≡ Done → AlikeEdge R most e e′ → Alike 0 (up.treat room left level s e) (up.treat room′ left level s′ e′)
+  unfolding up.treat
+  treat-alike zero level l s s′ e e′ A done h =
+      pick-alike _ _ (M .same (h .tail) (h .head)) (λ q. close-alike A level (omega arith) h) (λ q. overrun A)
+  treat-alike (suc left) level l s s′ e e′ A done h =
+      pick-alike _ _ (M .same (h .tail) (h .head)) (λ q. close-alike A level (omega arith) h)
+      (λ q. rw (← side-alike h) (steps-alike (up.treat room left (suc level)) (up.treat room′ left (suc level)) (λ t t′ f f′ B d k. treat-alike left (suc level) (omega arith) t t′ f f′ B d k) A done level (omega arith) (sideOf (room .places) e) h))
+
+  pub record AlikeSweep (w : Sweep T J) (w′ : Sweep T′ J′) : Type 0 where
+    pub state : Alike 0 (w .state) (w′ .state)
+    pub edge : w .edge ≡ w′ .edge
+
+  next-edge-alike : {w : Sweep T J} {w′ : Sweep T′ J′} → AlikeSweep w w′ → {s : State T J} {s′ : State T′ J′} → (w .state .end ≡ Done → Alike 0 s s′) → (i : ℕ) → AlikeSweep (up.nextEdge (w .state .end) w s i) (up.nextEdge (w′ .state .end) w′ s′ i)
+  next-edge-alike {w} {w′} A {s} {s′} f i = by (w .state .end) (w′ .state .end) (A .state .end) f
+    where
+      by : (u u′ : End) → u ≡ u′ → (u ≡ Done → Alike 0 s s′) → AlikeSweep (up.nextEdge u w s i) (up.nextEdge u′ w′ s′ i)
+      by Done Done e g = record { state = g refl; edge = refl }
+      by NoFreeRow NoFreeRow e g = A
+      by Overrun Overrun e g = A
+      by Done NoFreeRow e g = let z : _≡_ {A = ℕ} 0 1 = cc in absurd (omega arith)
+      by Done Overrun e g = let z : _≡_ {A = ℕ} 0 1 = cc in absurd (omega arith)
+      by NoFreeRow Done e g = let z : _≡_ {A = ℕ} 0 1 = cc in absurd (omega arith)
+      by NoFreeRow Overrun e g = let z : _≡_ {A = ℕ} 0 1 = cc in absurd (omega arith)
+      by Overrun Done e g = let z : _≡_ {A = ℕ} 0 1 = cc in absurd (omega arith)
+      by Overrun NoFreeRow e g = let z : _≡_ {A = ℕ} 0 1 = cc in absurd (omega arith)
+
+  -- the sweep up in the two rooms
+  pub sweep-alike : (list : ℕ → Edge P) (list′ : ℕ → Edge P′) (n : ℕ) → ((i : ℕ) → i < n → AlikeEdge R most (list i) (list′ i)) → {s : State T J} {s′ : State T′ J′} → Alike 0 s s′ → AlikeSweep (up.sweepUp room list s n) (up.sweepUp room′ list′ s′ n)
+  unfolding up.sweepUp
+  sweep-alike list list′ zero h A = record { state = A; edge = refl }
+  sweep-alike list list′ (suc n) h {s} {s′} A =
+      let B = sweep-alike list list′ n (λ i l. h i (omega arith)) A in
+      next-edge-alike B (λ done. treat-alike 12 0 (omega arith) _ _ _ _ (B .state) done (h n (omega arith))) n
