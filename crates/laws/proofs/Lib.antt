@@ -3,6 +3,10 @@ pub mod Counting
 pub mod First
 pub mod Pigeonhole
 pub mod Largest
+pub mod Tests
 pub mod Either
 pub mod Once
 pub mod Searching
+pub mod Halving
+pub mod Filling
+pub mod Moving

@@ -1,6 +1,6 @@
 -- Two rooms that hold the same run alike: whatever places, tables and journals are made of, as long as places compare alike, rows look alike after
 -- each write and records are kept, every step in one room has its like in the other. So what is shown of plain tables holds of slices.
-use mathlib.Core.Path.{_≡_, refl, sym, ap, _∙_}
+use mathlib.Core.Path.{_≡_, refl, sym, ap, subst}
 use mathlib.Core.Bool.{Bool, true, false, cond, not, _&&_}
 use Prim.Native.Nat.{ℕ, zero, suc, _+_, max, _≤_, _<_}
 use native.Mathlib.Omega.{arith}
@@ -49,25 +49,25 @@ pub record SmallRecord (most : ℕ) (entry : Record) : Type 0 where
   pub name : entry .name ≤ most
   pub chain : SmallChain most (entry .chain)
 
--- The rooms match: R relates places, Rows relates tables, Kept relates journals with their first k records. Names up to `most` are kept.
-pub record Match {P T J P′ T′ J′ : Type 0} (room : Room P T J) (room′ : Room P′ T′ J′) (R : P → P′ → Type 0) (Rows : T → T′ → Type 0) (Kept : ℕ → J → J′ → Type 0) (most : ℕ) : Type 0 where
+-- The rooms match: R relates places, Rows relates tables in their first k rows, Kept journals in their first k records. Names up to `most` are kept.
+pub record Match {P T J P′ T′ J′ : Type 0} (room : Room P T J) (room′ : Room P′ T′ J′) (R : P → P′ → Type 0) (Rows : ℕ → T → T′ → Type 0) (Kept : ℕ → J → J′ → Type 0) (most : ℕ) : Type 0 where
   pub same : {p q : P} {p′ q′ : P′} → R p p′ → R q q′ → room .places .same p q ≡ room′ .places .same p′ q′
   pub below : {p q : P} {p′ q′ : P′} → R p p′ → R q q′ → room .places .below p q ≡ room′ .places .below p′ q′
   pub apart : {p : P} {p′ : P′} → R p p′ → room .places .apart p ≡ room′ .places .apart p′
-  pub look : {t : T} {t′ : T′} → Rows t t′ → (r : ℕ) → r < room .rows → AlikeRow R (room .table .look t r) (room′ .table .look t′ r)
-  pub opened : {t : T} {t′ : T′} {p : P} {p′ : P′} → Rows t t′ → R p p′ → (r level : ℕ) → r < room .rows → Rows (room .table .opened t r level p) (room′ .table .opened t′ r level p′)
-  pub moved : {t : T} {t′ : T′} {p : P} {p′ : P′} → Rows t t′ → R p p′ → (r : ℕ) (s : Side) (n : ℕ) → r < room .rows → Rows (room .table .moved t r s p n) (room′ .table .moved t′ r s p′ n)
-  pub finished : {t : T} {t′ : T′} → Rows t t′ → (r : ℕ) (s : Side) → r < room .rows → Rows (room .table .finished t r s) (room′ .table .finished t′ r s)
-  pub freed : {t : T} {t′ : T′} → Rows t t′ → (r : ℕ) → r < room .rows → Rows (room .table .freed t r) (room′ .table .freed t′ r)
+  pub look : {k : ℕ} {t : T} {t′ : T′} → Rows k t t′ → (r : ℕ) → r < k → AlikeRow R (room .table .look t r) (room′ .table .look t′ r)
+  pub opened : {k : ℕ} {t : T} {t′ : T′} {p : P} {p′ : P′} → Rows k t t′ → R p p′ → (r level : ℕ) → r ≤ k → r < room .rows → Rows (max k (r + 1)) (room .table .opened t r level p) (room′ .table .opened t′ r level p′)
+  pub moved : {k : ℕ} {t : T} {t′ : T′} {p : P} {p′ : P′} → Rows k t t′ → R p p′ → (r : ℕ) (s : Side) (n : ℕ) → r < k → Rows k (room .table .moved t r s p n) (room′ .table .moved t′ r s p′ n)
+  pub finished : {k : ℕ} {t : T} {t′ : T′} → Rows k t t′ → (r : ℕ) (s : Side) → r < k → Rows k (room .table .finished t r s) (room′ .table .finished t′ r s)
+  pub freed : {k : ℕ} {t : T} {t′ : T′} → Rows k t t′ → (r : ℕ) → r < k → Rows k (room .table .freed t r) (room′ .table .freed t′ r)
   pub written : {j : J} {j′ : J′} {k : ℕ} {entry : Record} → Kept k j j′ → k < room .records → SmallRecord most entry → Kept (k + 1) (room .journal .written j k entry) (room′ .journal .written j′ k entry)
   pub rows : room .rows ≡ room′ .rows
   pub records : room .records ≡ room′ .records
   pub names : room .records ≤ most
 
-module _ {P T J P′ T′ J′ : Type 0} {room : Room P T J} {room′ : Room P′ T′ J′} {R : P → P′ → Type 0} {Rows : T → T′ → Type 0} {Kept : ℕ → J → J′ → Type 0} {most : ℕ} (M : Match room room′ R Rows Kept most) where
-  -- two states alike, with room to spare: the peak is at most d more than the records
-  pub record Alike (d : ℕ) (s : State T J) (s′ : State T′ J′) : Type 0 where
-    pub rows : Rows (s .rows) (s′ .rows)
+module _ {P T J P′ T′ J′ : Type 0} {room : Room P T J} {room′ : Room P′ T′ J′} {R : P → P′ → Type 0} {Rows : ℕ → T → T′ → Type 0} {Kept : ℕ → J → J′ → Type 0} {most : ℕ} (M : Match room room′ R Rows Kept most) where
+  -- two states alike in every row that was ever open: the peak is at most d more than the records, and at least k
+  pub record Alike (d k : ℕ) (s : State T J) (s′ : State T′ J′) : Type 0 where
+    pub rows : Rows (s .peak) (s .rows) (s′ .rows)
     pub journal : Kept (s .records) (s .journal) (s′ .journal)
     pub records : s .records ≡ s′ .records
     pub peak : s .peak ≡ s′ .peak
@@ -75,10 +75,11 @@ module _ {P T J P′ T′ J′ : Type 0} {room : Room P T J} {room′ : Room P�
     pub named : s .peak ≤ room .rows
     pub kept : s .records ≤ room .records
     pub little : s .end ≡ Done → s .peak ≤ s .records + d
+    pub since : k ≤ s .peak
 
-  module _ {d : ℕ} {s : State T J} {s′ : State T′ J′} (A : Alike d s s′) where
+  module _ {d k : ℕ} {s : State T J} {s′ : State T′ J′} (A : Alike d k s s′) where
     look-alike : (r : ℕ) → r < s .peak → AlikeRow R (up.look room s r) (up.look room′ s′ r)
-    look-alike r l = M .look (A .rows) r (omega (arith, A .named))
+    look-alike r l = M .look (A .rows) r l
 
     tip-alike : (level : ℕ) (side : Side) {p : P} {p′ : P′} → R p p′ → (r : ℕ) → r < s .peak → hasTip (room .places) level side p (up.look room s r) ≡ hasTip (room′ .places) level side p′ (up.look room′ s′ r)
     unfolding hasTip
@@ -99,8 +100,8 @@ module _ {P T J P′ T′ J′ : Type 0} {room : Room P T J} {room′ : Room P�
     unfolding up.inUse
     in-use-alike = rw (count-same _ _ (s .peak) (λ r l. look-alike r l .used), A .peak)
 
-  weaken : {d d′ : ℕ} {s : State T J} {s′ : State T′ J′} → d ≤ d′ → Alike d s s′ → Alike d′ s s′
-  weaken l A = record {
+  weaken : {d d′ k k′ : ℕ} {s : State T J} {s′ : State T′ J′} → d ≤ d′ → Alike d k s s′ → k′ ≤ s .peak → Alike d′ k′ s s′
+  weaken l A m = record {
     rows = A .rows;
     journal = A .journal;
     records = A .records;
@@ -109,10 +110,11 @@ module _ {P T J P′ T′ J′ : Type 0} {room : Room P T J} {room′ : Room P�
     named = A .named;
     kept = A .kept;
     little = λ e. omega (arith, l, A .little e);
+    since = m;
   }
 
   -- the same state with other rows
-  with-rows : {d : ℕ} {s : State T J} {s′ : State T′ J′} {t : T} {t′ : T′} → Rows t t′ → Alike d s s′ → Alike d (up.withRows t s) (up.withRows t′ s′)
+  with-rows : {d k : ℕ} {s : State T J} {s′ : State T′ J′} {t : T} {t′ : T′} → Rows (s .peak) t t′ → Alike d k s s′ → Alike d k (up.withRows t s) (up.withRows t′ s′)
   with-rows h A = record {
     rows = h;
     journal = A .journal;
@@ -122,10 +124,11 @@ module _ {P T J P′ T′ J′ : Type 0} {room : Room P T J} {room′ : Room P�
     named = A .named;
     kept = A .kept;
     little = A .little;
+    since = A .since;
   }
 
   -- a state that ended early
-  end-early : {d : ℕ} {s : State T J} {s′ : State T′ J′} (x : End) → (x ≡ Done → ⊥) → Alike d s s′ → Alike 0 (up.ended x s) (up.ended x s′)
+  end-early : {d k : ℕ} {s : State T J} {s′ : State T′ J′} (x : End) → (x ≡ Done → ⊥) → Alike d k s s′ → Alike 0 k (up.ended x s) (up.ended x s′)
   end-early x n A = record {
     rows = A .rows;
     journal = A .journal;
@@ -135,6 +138,7 @@ module _ {P T J P′ T′ J′ : Type 0} {room : Room P T J} {room′ : Room P�
     named = A .named;
     kept = A .kept;
     little = λ e. absurd (n e);
+    since = A .since;
   }
 
   by-name : (s : State T J) → max (s .peak) (up.inUse room s + 1) ≡ max (s .peak) (up.lowestFree room s + 1)
@@ -145,11 +149,11 @@ module _ {P T J P′ T′ J′ : Type 0} {room : Room P T J} {room′ : Room P�
   unfolding up.lowestFree
   lowest-up-to s = first-le _ (s .peak)
 
-  open-alike : {s : State T J} {s′ : State T′ J′} (A : Alike 0 s s′) (level : ℕ) {p : P} {p′ : P′} → R p p′ → s .end ≡ Done → up.lowestFree room s < room .rows → Alike 1 (up.open-row room s (up.lowestFree room s) level p) (up.open-row room′ s′ (up.lowestFree room s) level p′)
+  open-alike : {k : ℕ} {s : State T J} {s′ : State T′ J′} (A : Alike 0 k s s′) (level : ℕ) {p : P} {p′ : P′} → R p p′ → s .end ≡ Done → up.lowestFree room s < room .rows → Alike 1 k (up.open-row room s (up.lowestFree room s) level p) (up.open-row room′ s′ (up.lowestFree room s) level p′)
   unfolding up.open-row
-  open-alike {s} A level h done l =
+  open-alike {k} {s} {s′} A level {p} {p′} h done l =
       record {
-        rows = M .opened (A .rows) h _ level l;
+        rows = subst (λ n. Rows n (room .table .opened (s .rows) (up.lowestFree room s) level p) (room′ .table .opened (s′ .rows) (up.lowestFree room s) level p′)) (sym (by-name s)) (M .opened (A .rows) h (up.lowestFree room s) level (lowest-up-to s) l);
         journal = A .journal;
         records = A .records;
         peak = λ i. max (A .peak i) (in-use-alike A i + 1);
@@ -157,7 +161,13 @@ module _ {P T J P′ T′ J′ : Type 0} {room : Room P T J} {room′ : Room P�
         named = omega (arith, A .named, l, by-name s);
         kept = A .kept;
         little = λ e. omega (arith, A .little done, lowest-up-to s, by-name s);
+        since = omega (arith, A .since);
       }
+
+  -- the opened row is below the new peak
+  opened-below : (s : State T J) (level : ℕ) (p : P) → up.lowestFree room s < up.open-row room s (up.lowestFree room s) level p .peak
+  unfolding up.open-row
+  opened-below s level p = omega (arith, by-name s)
 
   open-records : (s : State T J) (r level : ℕ) (p : P) → up.open-row room s r level p .records ≡ s .records
   unfolding up.open-row
@@ -184,9 +194,9 @@ module _ {P T J P′ T′ J′ : Type 0} {room : Room P T J} {room′ : Room P�
   bottom-alike Rising h = h .tail
   bottom-alike Falling h = h .head
 
-  write-alike : {s : State T J} {s′ : State T′ J′} → Alike 1 s s′ → {entry entry′ : Record} → entry ≡ entry′ → s .records < room .records → SmallRecord most entry → Alike 0 (up.write room s entry) (up.write room′ s′ entry′)
+  write-alike : {k : ℕ} {s : State T J} {s′ : State T′ J′} → Alike 1 k s s′ → {entry entry′ : Record} → entry ≡ entry′ → s .records < room .records → SmallRecord most entry → Alike 0 k (up.write room s entry) (up.write room′ s′ entry′)
   unfolding up.write
-  write-alike {s} {s′} A {entry} h l m =
+  write-alike {k} {s} {s′} A {entry} h l m =
       record {
         rows = A .rows;
         journal = rw (← h, ← A .records) (M .written (A .journal) l m);
@@ -196,58 +206,64 @@ module _ {P T J P′ T′ J′ : Type 0} {room : Room P T J} {room′ : Room P�
         named = A .named;
         kept = omega arith;
         little = λ e. omega (arith, A .little e);
+        since = A .since;
       }
 
-  move-alike : {s : State T J} {s′ : State T′ J′} {p : P} {p′ : P′} {n n′ : ℕ} → Alike 0 s s′ → (r : ℕ) (side : Side) → R p p′ → n ≡ n′ → r < room .rows → Alike 0 (up.move room s r side p n) (up.move room′ s′ r side p′ n′)
+  move-alike : {k : ℕ} {s : State T J} {s′ : State T′ J′} {p : P} {p′ : P′} {n n′ : ℕ} → Alike 0 k s s′ → (r : ℕ) (side : Side) → R p p′ → n ≡ n′ → r < s .peak → Alike 0 k (up.move room s r side p n) (up.move room′ s′ r side p′ n′)
   unfolding up.move
   move-alike A r side h e l = rw (← e) (with-rows (M .moved (A .rows) h r side _ l) A)
 
   -- a choice between states, made alike
-  pick-alike : {d : ℕ} (t t′ : Bool) → t ≡ t′ → {x y : State T J} {x′ y′ : State T′ J′} → (t ≡ true → Alike d x x′) → (t ≡ false → Alike d y y′) → Alike d (up.pickState t x y) (up.pickState t′ x′ y′)
+  pick-alike : {d k : ℕ} (t t′ : Bool) → t ≡ t′ → {x y : State T J} {x′ y′ : State T′ J′} → (t ≡ true → Alike d k x x′) → (t ≡ false → Alike d k y y′) → Alike d k (up.pickState t x y) (up.pickState t′ x′ y′)
   pick-alike true true e f g = f refl
   pick-alike true false e f g = absurd (not-both refl e)
   pick-alike false true e f g = absurd (not-both refl (sym e))
   pick-alike false false e f g = g refl
 
-  overrun : {d : ℕ} {s : State T J} {s′ : State T′ J′} → Alike d s s′ → Alike 0 (up.ended Overrun s) (up.ended Overrun s′)
+  overrun : {d k : ℕ} {s : State T J} {s′ : State T′ J′} → Alike d k s s′ → Alike 0 k (up.ended Overrun s) (up.ended Overrun s′)
   overrun A = end-early Overrun (λ x. let z : _≡_ {A = ℕ} 0 1 = cc in omega arith) A
 
-  attach-alike : {s : State T J} {s′ : State T′ J′} → Alike 1 s s′ → (level : ℕ) → level ≤ 12 → (side : Side) {e : Edge P} {e′ : Edge P′} → AlikeEdge R most e e′ → (r : ℕ) → r < room .rows → r ≤ s .records → Alike 0 (up.attach room s level side e r) (up.attach room′ s′ level side e′ r)
+  -- writing leaves the peak
+  write-peak : (s : State T J) (entry : Record) → up.write room s entry .peak ≡ s .peak
+  unfolding up.write
+  write-peak s entry = refl
+
+  attach-alike : {k : ℕ} {s : State T J} {s′ : State T′ J′} → Alike 1 k s s′ → (level : ℕ) → level ≤ 12 → (side : Side) {e : Edge P} {e′ : Edge P′} → AlikeEdge R most e e′ → (r : ℕ) → r < s .peak → r ≤ s .records → Alike 0 k (up.attach room s level side e r) (up.attach room′ s′ level side e′ r)
   unfolding up.attach
-  attach-alike {s} {s′} A level lv side {e} {e′} h r rl rr =
+  attach-alike {k} {s} {s′} A level lv side {e} {e′} h r rl rr =
       let a = M .look (A .rows) r rl in
       let b = chain-record-alike level side r a h in
       let n = longer-alike side a h in
       pick-alike _ _ (λ i. ltb (A .records i) (M .records i) && leb (n i) mostLength)
       (λ q. let l = ltb-true _ _ (both-true (ltb (s .records) (room .records)) _ q .0) in
-      move-alike (write-alike A b l (record { level = lv; name = h .small; chain = omega (arith, rr, l, M .names) })) r side (top-alike side h) n rl)
+      move-alike (write-alike A b l (record { level = lv; name = h .small; chain = omega (arith, rr, l, M .names) })) r side (top-alike side h) n (omega (arith, rl, write-peak s (up.chainRecord room level side (up.look room s r) e r))))
       (λ q. overrun A)
 
-  close-alike : {s : State T J} {s′ : State T′ J′} → Alike 0 s s′ → (level : ℕ) → level ≤ 12 → {e : Edge P} {e′ : Edge P′} → AlikeEdge R most e e′ → Alike 0 (up.close room s level e) (up.close room′ s′ level e′)
+  close-alike : {k : ℕ} {s : State T J} {s′ : State T′ J′} → Alike 0 k s s′ → (level : ℕ) → level ≤ 12 → {e : Edge P} {e′ : Edge P′} → AlikeEdge R most e e′ → Alike 0 k (up.close room s level e) (up.close room′ s′ level e′)
   unfolding up.close
-  close-alike {s} A level lv {e} h =
+  close-alike {k} {s} A level lv {e} h =
       pick-alike _ _ (λ i. ltb (A .records i) (M .records i))
-      (λ q. write-alike (weaken (omega arith) A) (λ i. record { level = level; name = h .name i; chain = closing; offset = lib.IntN.pos (h .length i .falling) }) (ltb-true _ _ q) (record { level = lv; name = h .small; chain = omega arith }))
+      (λ q. write-alike (weaken (omega arith) A (A .since)) (λ i. record { level = level; name = h .name i; chain = closing; offset = lib.IntN.pos (h .length i .falling) }) (ltb-true _ _ q) (record { level = lv; name = h .small; chain = omega arith }))
       (λ q. overrun A)
 
   -- step 4
-  meeting-alike : {s : State T J} {s′ : State T′ J′} → Alike 0 s s′ → (level : ℕ) (side : Side) {e : Edge P} {e′ : Edge P′} → AlikeEdge R most e e′ → up.meeting room s level side e ≡ up.meeting room′ s′ level side e′
+  meeting-alike : {k : ℕ} {s : State T J} {s′ : State T′ J′} → Alike 0 k s s′ → (level : ℕ) (side : Side) {e : Edge P} {e′ : Edge P′} → AlikeEdge R most e e′ → up.meeting room s level side e ≡ up.meeting room′ s′ level side e′
   unfolding up.meeting
   meeting-alike A level side h = λ i. up.pickMeeting room (M .apart (top-alike side h) i) (find-alike A level (otherSide side) (top-alike side h) i)
 
-  finish-alike : {s : State T J} {s′ : State T′ J′} → Alike 0 s s′ → (r : ℕ) (side : Side) → r < room .rows → Alike 0 (up.finish room s r side) (up.finish room′ s′ r side)
+  finish-alike : {k : ℕ} {s : State T J} {s′ : State T′ J′} → Alike 0 k s s′ → (r : ℕ) (side : Side) → r < s .peak → Alike 0 k (up.finish room s r side) (up.finish room′ s′ r side)
   unfolding up.finish
   finish-alike A r side l = with-rows (M .finished (A .rows) r side l) A
 
-  free-alike : {s : State T J} {s′ : State T′ J′} → Alike 0 s s′ → (r : ℕ) → r < room .rows → Alike 0 (up.free room s r) (up.free room′ s′ r)
+  free-alike : {k : ℕ} {s : State T J} {s′ : State T′ J′} → Alike 0 k s s′ → (r : ℕ) → r < s .peak → Alike 0 k (up.free room s r) (up.free room′ s′ r)
   unfolding up.free
   free-alike A r l = with-rows (M .freed (A .rows) r l) A
 
   -- going on after a treatment
-  after-alike : {x : State T J} {x′ : State T′ J′} → Alike 0 x x′ → {y : State T J} {y′ : State T′ J′} → (x .end ≡ Done → Alike 0 y y′) → Alike 0 (up.afterDone (x .end) x y) (up.afterDone (x′ .end) x′ y′)
-  after-alike {x} {x′} A {y} {y′} f = by (x .end) (x′ .end) (A .end) f
+  after-alike : {k : ℕ} {x : State T J} {x′ : State T′ J′} → Alike 0 k x x′ → {y : State T J} {y′ : State T′ J′} → (x .end ≡ Done → Alike 0 k y y′) → Alike 0 k (up.afterDone (x .end) x y) (up.afterDone (x′ .end) x′ y′)
+  after-alike {k} {x} {x′} A {y} {y′} f = by (x .end) (x′ .end) (A .end) f
     where
-      by : (u u′ : End) → u ≡ u′ → (u ≡ Done → Alike 0 y y′) → Alike 0 (up.afterDone u x y) (up.afterDone u′ x′ y′)
+      by : (u u′ : End) → u ≡ u′ → (u ≡ Done → Alike 0 k y y′) → Alike 0 k (up.afterDone u x y) (up.afterDone u′ x′ y′)
       by Done Done e g = g refl
       by NoFreeRow NoFreeRow e g = A
       by Overrun Overrun e g = A
@@ -271,13 +287,13 @@ module _ {P T J P′ T′ J′ : Type 0} {room : Room P T J} {room′ : Room P�
   unfolding up.find
   found-in-time s level side p q h = found-below _ (s .peak) q h
 
-  found-small : {s : State T J} {s′ : State T′ J′} → Alike 0 s s′ → s .end ≡ Done → (level : ℕ) (side : Side) (e : Edge P) (q : ℕ) → up.meeting room s level side e ≡ At q → (q < room .rows) × (q ≤ most)
+  found-small : {k : ℕ} {s : State T J} {s′ : State T′ J′} → Alike 0 k s s′ → s .end ≡ Done → (level : ℕ) (side : Side) (e : Edge P) (q : ℕ) → up.meeting room s level side e ≡ At q → (q < s .peak) × (q ≤ most)
   unfolding up.meeting up.find
-  found-small {s} A done level side e q h = by (room .places .apart (top side e)) h
+  found-small {k} {s} A done level side e q h = by (room .places .apart (top side e)) h
     where
-      by : (t : Bool) → up.pickMeeting room t (foundBelow (λ r. hasTip (room .places) level (otherSide side) (top side e) (up.look room s r)) (s .peak)) ≡ At q → (q < room .rows) × (q ≤ most)
+      by : (t : Bool) → up.pickMeeting room t (foundBelow (λ r. hasTip (room .places) level (otherSide side) (top side e) (up.look room s r)) (s .peak)) ≡ At q → (q < s .peak) × (q ≤ most)
       by true u = let z : _≡_ {A = ℕ} 0 1 = cc in absurd (omega arith)
-      by false u = let l = found-below _ (s .peak) q u in (omega (arith, l, A .named), omega (arith, l, A .little done, A .kept, M .names))
+      by false u = let l = found-below _ (s .peak) q u in (l, omega (arith, l, A .little done, A .kept, M .names))
 
   edge-alike : (r : ℕ) {row : Row P} {row′ : Row P′} → r ≤ most → AlikeRow R row row′ → AlikeEdge R most (asEdge r row) (asEdge r row′)
   unfolding asEdge
@@ -291,80 +307,89 @@ module _ {P T J P′ T′ J′ : Type 0} {room : Room P T J} {room′ : Room P�
       }
 
   -- the next level is treated alike
-  module _ (next : up.Treatment room) (next′ : up.Treatment room′) (alike : (s : State T J) (s′ : State T′ J′) (e : Edge P) (e′ : Edge P′) → Alike 0 s s′ → s .end ≡ Done → AlikeEdge R most e e′ → Alike 0 (next s e) (next′ s′ e′)) where
-    pass-up-alike : {s : State T J} {s′ : State T′ J′} → Alike 0 s s′ → s .end ≡ Done → (r : ℕ) → r < room .rows → r ≤ most → Alike 0 (up.passUp room next s r) (up.passUp room′ next′ s′ r)
+  module _ (next : up.Treatment room) (next′ : up.Treatment room′) (alike : (k : ℕ) (s : State T J) (s′ : State T′ J′) (e : Edge P) (e′ : Edge P′) → Alike 0 k s s′ → s .end ≡ Done → AlikeEdge R most e e′ → Alike 0 k (next s e) (next′ s′ e′)) where
+    pass-up-alike : {k : ℕ} {s : State T J} {s′ : State T′ J′} → Alike 0 k s s′ → s .end ≡ Done → (r : ℕ) → r < k → r ≤ most → Alike 0 k (up.passUp room next s r) (up.passUp room′ next′ s′ r)
     unfolding up.passUp
-    pass-up-alike {s} {s′} A done r l m =
-        let a = M .look (A .rows) r l in
+    pass-up-alike {k} {s} {s′} A done r l m =
+        let a = M .look (A .rows) r (omega (arith, A .since)) in
         pick-alike _ _ (λ i. a .branch Rising .finished i && a .branch Falling .finished i)
-        (λ q. let B = alike s s′ _ _ A done (edge-alike r m a) in after-alike B (λ u. free-alike B r l))
+        (λ q. let B = alike k s s′ _ _ A done (edge-alike r m a) in after-alike B (λ u. free-alike B r (omega (arith, l, B .since))))
         (λ q. A)
 
-    pass-both-alike : {s : State T J} {s′ : State T′ J′} → Alike 0 s s′ → s .end ≡ Done → (q r : ℕ) → q < room .rows → q ≤ most → r < room .rows → r ≤ most → Alike 0 (up.passBoth room next s q r) (up.passBoth room′ next′ s′ q r)
+    pass-both-alike : {k : ℕ} {s : State T J} {s′ : State T′ J′} → Alike 0 k s s′ → s .end ≡ Done → (q r : ℕ) → q < k → q ≤ most → r < k → r ≤ most → Alike 0 k (up.passBoth room next s q r) (up.passBoth room′ next′ s′ q r)
     unfolding up.passBoth
     pass-both-alike A done q r ql qm rl rm =
         let B = pass-up-alike A done q ql qm in
         pick-alike (eqb q r) (eqb q r) refl (λ u. B) (λ u. after-alike B (λ v. pass-up-alike B v r rl rm))
 
-    meet-alike : {s : State T J} {s′ : State T′ J′} → Alike 0 s s′ → s .end ≡ Done → (side : Side) (r : ℕ) → r < room .rows → r ≤ most → (f : Found) → ((q : ℕ) → f ≡ At q → (q < room .rows) × (q ≤ most)) → Alike 0 (up.meet room next s side r f) (up.meet room′ next′ s′ side r f)
+    meet-alike : {k : ℕ} {s : State T J} {s′ : State T′ J′} → Alike 0 k s s′ → s .end ≡ Done → (side : Side) (r : ℕ) → r < k → r ≤ most → (f : Found) → ((q : ℕ) → f ≡ At q → (q < k) × (q ≤ most)) → Alike 0 k (up.meet room next s side r f) (up.meet room′ next′ s′ side r f)
     unfolding up.meet up.finish
     meet-alike A done side r l m Nothing g = A
     meet-alike A done side r l m (At q) g =
         let b = g q refl in
-        pass-both-alike (finish-alike (finish-alike A q (otherSide side) (b .0)) r side l) done q r (b .0) (b .1) l m
+        pass-both-alike (finish-alike (finish-alike A q (otherSide side) (omega (arith, b .0, A .since))) r side (omega (arith, l, A .since))) done q r (b .0) (b .1) l m
 
-    on-row-alike : {s : State T J} {s′ : State T′ J′} → Alike 1 s s′ → (level : ℕ) → level ≤ 12 → (side : Side) {e : Edge P} {e′ : Edge P′} → AlikeEdge R most e e′ → (r : ℕ) → r < room .rows → r ≤ s .records → Alike 0 (up.onRow room next s level side e r) (up.onRow room′ next′ s′ level side e′ r)
+    -- steps 2 to 4; attaching leaves no smaller peak
+    on-row-since : {s : State T J} {s′ : State T′ J′} → Alike 1 (s .peak) s s′ → (level : ℕ) → level ≤ 12 → (side : Side) {e : Edge P} {e′ : Edge P′} → AlikeEdge R most e e′ → (r : ℕ) → r < s .peak → r ≤ s .records → Alike 0 (up.attach room s level side e r .peak) (up.onRow room next s level side e r) (up.onRow room′ next′ s′ level side e′ r)
     unfolding up.onRow
-    on-row-alike {s} {s′} A level lv side {e} {e′} h r l m =
+    on-row-since {s} {s′} A level lv side {e} {e′} h r l m =
         let B = attach-alike A level lv side h r l m in
         let f = meeting-alike B level side h in
-        after-alike B (λ done. rw (← f) (meet-alike B done side r l (omega (arith, m, A .kept, M .names)) (up.meeting room (up.attach room s level side e r) level side e) (λ q u. found-small B done level side e q u)))
+        let C : Alike 0 (up.attach room s level side e r .peak) (up.attach room s level side e r) (up.attach room′ s′ level side e′ r) = weaken (omega arith) B (omega arith) in
+        after-alike C (λ done. rw (← f) (meet-alike C done side r (omega (arith, l, B .since)) (omega (arith, m, A .kept, M .names)) (up.meeting room (up.attach room s level side e r) level side e) (λ q u. found-small B done level side e q u)))
+
+    on-row-alike : {k : ℕ} {s : State T J} {s′ : State T′ J′} → Alike 1 k s s′ → (level : ℕ) → level ≤ 12 → (side : Side) {e : Edge P} {e′ : Edge P′} → AlikeEdge R most e e′ → (r : ℕ) → r < s .peak → r ≤ s .records → Alike 0 k (up.onRow room next s level side e r) (up.onRow room′ next′ s′ level side e′ r)
+    on-row-alike {k} {s} {s′} A level lv side h r l m =
+        let A₁ : Alike 1 (s .peak) s s′ = weaken (omega arith) A (omega arith) in
+        let B = attach-alike A₁ level lv side h r l m in
+        let C = on-row-since A₁ level lv side h r l m in
+        weaken (omega arith) C (omega (arith, A .since, B .since, C .since))
 
     -- step 1: the row found, or the lowest free one opened, or none
-    in-chain-alike : {s : State T J} {s′ : State T′ J′} → Alike 0 s s′ → s .end ≡ Done → (level : ℕ) → level ≤ 12 → (side : Side) {e : Edge P} {e′ : Edge P′} → AlikeEdge R most e e′ → (f : Found) → ((q : ℕ) → f ≡ At q → q < s .peak) → Alike 0 (up.inChain room next s level side e f) (up.inChain room′ next′ s′ level side e′ f)
+    in-chain-alike : {k : ℕ} {s : State T J} {s′ : State T′ J′} → Alike 0 k s s′ → s .end ≡ Done → (level : ℕ) → level ≤ 12 → (side : Side) {e : Edge P} {e′ : Edge P′} → AlikeEdge R most e e′ → (f : Found) → ((q : ℕ) → f ≡ At q → q < s .peak) → Alike 0 k (up.inChain room next s level side e f) (up.inChain room′ next′ s′ level side e′ f)
     unfolding up.inChain
     in-chain-alike A done level lv side h (At r) g =
         let l = g r refl in
-        on-row-alike (weaken (omega arith) A) level lv side h r (omega (arith, l, A .named)) (omega (arith, l, A .little done))
-    in-chain-alike {s} {s′} A done level lv side {e} {e′} h Nothing g = rw (← lowest-alike A) (pick-alike (ltb low (room .rows)) (ltb low (room′ .rows)) (λ i. ltb low (M .rows i)) opens (λ u. none))
+        on-row-alike (weaken (omega arith) A (A .since)) level lv side h r l (omega (arith, l, A .little done))
+    in-chain-alike {k} {s} {s′} A done level lv side {e} {e′} h Nothing g = rw (← lowest-alike A) (pick-alike (ltb low (room .rows)) (ltb low (room′ .rows)) (λ i. ltb low (M .rows i)) opens (λ u. none))
       where
         low : ℕ
         low = up.lowestFree room s
 
-        opens : ltb low (room .rows) ≡ true → Alike 0 (up.onRow room next (up.open-row room s low level (bottom side e)) level side e low) (up.onRow room′ next′ (up.open-row room′ s′ low level (bottom side e′)) level side e′ low)
+        opens : ltb low (room .rows) ≡ true → Alike 0 k (up.onRow room next (up.open-row room s low level (bottom side e)) level side e low) (up.onRow room′ next′ (up.open-row room′ s′ low level (bottom side e′)) level side e′ low)
         opens t =
             let l = ltb-true low (room .rows) t in
             let B = open-alike A level (bottom-alike side h) done l in
-            on-row-alike B level lv side h low l (omega (arith, lowest-up-to s, A .little done, open-records s low level (bottom side e)))
+            on-row-alike B level lv side h low (opened-below s level (bottom side e)) (omega (arith, lowest-up-to s, A .little done, open-records s low level (bottom side e)))
 
-        none : Alike 0 (up.ended NoFreeRow s) (up.ended NoFreeRow s′)
+        none : Alike 0 k (up.ended NoFreeRow s) (up.ended NoFreeRow s′)
         none = end-early NoFreeRow (λ x. let z : _≡_ {A = ℕ} 0 1 = cc in omega arith) A
 
-    steps-alike : {s : State T J} {s′ : State T′ J′} → Alike 0 s s′ → s .end ≡ Done → (level : ℕ) → level ≤ 12 → (side : Side) {e : Edge P} {e′ : Edge P′} → AlikeEdge R most e e′ → Alike 0 (up.stepsOn room next s level side e) (up.stepsOn room′ next′ s′ level side e′)
+    steps-alike : {k : ℕ} {s : State T J} {s′ : State T′ J′} → Alike 0 k s s′ → s .end ≡ Done → (level : ℕ) → level ≤ 12 → (side : Side) {e : Edge P} {e′ : Edge P′} → AlikeEdge R most e e′ → Alike 0 k (up.stepsOn room next s level side e) (up.stepsOn room′ next′ s′ level side e′)
     unfolding up.stepsOn
-    steps-alike {s} A done level lv side {e} h =
+    steps-alike {k} {s} A done level lv side {e} h =
         rw (← find-alike A level side (bottom-alike side h)) (in-chain-alike A done level lv side h (up.find room s level side (bottom side e)) (found-in-time s level side (bottom side e)))
 
   side-alike : {e : Edge P} {e′ : Edge P′} → AlikeEdge R most e e′ → sideOf (room .places) e ≡ sideOf (room′ .places) e′
   side-alike h = λ i. sideTest (M .below (h .tail) (h .head) i)
 
   -- every treatment is alike, by the levels left
-  treat-alike : (left level : ℕ) → level + left ≤ 12 → (s : State T J) (s′ : State T′ J′) (e : Edge P) (e′ : Edge P′) → Alike 0 s s′ → s .end ≡ Done → AlikeEdge R most e e′ → Alike 0 (up.treat room left level s e) (up.treat room′ left level s′ e′)
+  treat-alike : (left level : ℕ) → level + left ≤ 12 → (k : ℕ) (s : State T J) (s′ : State T′ J′) (e : Edge P) (e′ : Edge P′) → Alike 0 k s s′ → s .end ≡ Done → AlikeEdge R most e e′ → Alike 0 k (up.treat room left level s e) (up.treat room′ left level s′ e′)
   unfolding up.treat
-  treat-alike zero level l s s′ e e′ A done h =
+  treat-alike zero level l k s s′ e e′ A done h =
       pick-alike _ _ (M .same (h .tail) (h .head)) (λ q. close-alike A level (omega arith) h) (λ q. overrun A)
-  treat-alike (suc left) level l s s′ e e′ A done h =
+  treat-alike (suc left) level l k s s′ e e′ A done h =
       pick-alike _ _ (M .same (h .tail) (h .head)) (λ q. close-alike A level (omega arith) h)
-      (λ q. rw (← side-alike h) (steps-alike (up.treat room left (suc level)) (up.treat room′ left (suc level)) (λ t t′ f f′ B d k. treat-alike left (suc level) (omega arith) t t′ f f′ B d k) A done level (omega arith) (sideOf (room .places) e) h))
+      (λ q. rw (← side-alike h) (steps-alike (up.treat room left (suc level)) (up.treat room′ left (suc level)) (λ n t t′ f f′ B d g. treat-alike left (suc level) (omega arith) n t t′ f f′ B d g) A done level (omega arith) (sideOf (room .places) e) h))
 
   pub record AlikeSweep (w : Sweep T J) (w′ : Sweep T′ J′) : Type 0 where
-    pub state : Alike 0 (w .state) (w′ .state)
+    pub state : Alike 0 0 (w .state) (w′ .state)
     pub edge : w .edge ≡ w′ .edge
 
-  next-edge-alike : {w : Sweep T J} {w′ : Sweep T′ J′} → AlikeSweep w w′ → {s : State T J} {s′ : State T′ J′} → (w .state .end ≡ Done → Alike 0 s s′) → (i : ℕ) → AlikeSweep (up.nextEdge (w .state .end) w s i) (up.nextEdge (w′ .state .end) w′ s′ i)
+  next-edge-alike : {w : Sweep T J} {w′ : Sweep T′ J′} → AlikeSweep w w′ → {s : State T J} {s′ : State T′ J′} → (w .state .end ≡ Done → Alike 0 0 s s′) → (i : ℕ) → AlikeSweep (up.nextEdge (w .state .end) w s i) (up.nextEdge (w′ .state .end) w′ s′ i)
   next-edge-alike {w} {w′} A {s} {s′} f i = by (w .state .end) (w′ .state .end) (A .state .end) f
     where
-      by : (u u′ : End) → u ≡ u′ → (u ≡ Done → Alike 0 s s′) → AlikeSweep (up.nextEdge u w s i) (up.nextEdge u′ w′ s′ i)
+      by : (u u′ : End) → u ≡ u′ → (u ≡ Done → Alike 0 0 s s′) → AlikeSweep (up.nextEdge u w s i) (up.nextEdge u′ w′ s′ i)
       by Done Done e g = record { state = g refl; edge = refl }
       by NoFreeRow NoFreeRow e g = A
       by Overrun Overrun e g = A
@@ -376,9 +401,9 @@ module _ {P T J P′ T′ J′ : Type 0} {room : Room P T J} {room′ : Room P�
       by Overrun NoFreeRow e g = let z : _≡_ {A = ℕ} 0 1 = cc in absurd (omega arith)
 
   -- the sweep up in the two rooms
-  pub sweep-alike : (list : ℕ → Edge P) (list′ : ℕ → Edge P′) (n : ℕ) → ((i : ℕ) → i < n → AlikeEdge R most (list i) (list′ i)) → {s : State T J} {s′ : State T′ J′} → Alike 0 s s′ → AlikeSweep (up.sweepUp room list s n) (up.sweepUp room′ list′ s′ n)
+  pub sweep-alike : (list : ℕ → Edge P) (list′ : ℕ → Edge P′) (n : ℕ) → ((i : ℕ) → i < n → AlikeEdge R most (list i) (list′ i)) → {s : State T J} {s′ : State T′ J′} → Alike 0 0 s s′ → AlikeSweep (up.sweepUp room list s n) (up.sweepUp room′ list′ s′ n)
   unfolding up.sweepUp
   sweep-alike list list′ zero h A = record { state = A; edge = refl }
   sweep-alike list list′ (suc n) h {s} {s′} A =
       let B = sweep-alike list list′ n (λ i l. h i (omega arith)) A in
-      next-edge-alike B (λ done. treat-alike 12 0 (omega arith) _ _ _ _ (B .state) done (h n (omega arith))) n
+      next-edge-alike B (λ done. treat-alike 12 0 (omega arith) 0 _ _ _ _ (B .state) done (h n (omega arith))) n

@@ -1,0 +1,83 @@
+-- The table of the answer sheet, row by row: what is true of a call that gets an answer. Whatever `checked` answers, one row of the table gives it
+-- (`row`); and since a row is told by its answer, each refusal is given exactly where its row holds.
+use mathlib.Core.Path.{_≡_, refl}
+use mathlib.Core.Bool.{Bool, true, false, cond, _||_}
+use mathlib.Core.List.{List}
+use Prim.Native.Nat.{ℕ, _≤_, _<_}
+use native.Mathlib.Omega.{arith}
+use lib.Dec.{ltb}
+use lib.IntN.{ℤ}
+use borrow.Author.Tests.{ltb-true, ltb-false}
+use Rattle.laws.specs.Counting.{first}
+use Rattle.laws.proofs.Deciding.{not-both}
+use Rattle.laws.proofs.First.{first-holds, first-least}
+use Rattle.laws.proofs.Searching.{NoneBelow}
+use Rattle.sheet.specs.declared.Refusal.{Refusal}
+use Rattle.sheet.specs.declared.Refusal.the-variants.{NotWhole, TooMany, ListsDiffer, JournalShort, PastRange, EqualEnds, TopFalls, Repeated, Uneven}
+use Rattle.sheet.specs.declared.Check.{Check}
+use Rattle.sheet.specs.declared.Check.the-variants.{Passed, Refused}
+use Rattle.sheet.specs.Edges.{edgesIn, sheetOf}
+use Rattle.sheet.specs.Answers.{Call, notWhole, tooMany, listsDiffer, journalShort, pastRange, equalEnds, topFalls, edgeFault, faultOf, repeats, uneven, refuseIf, refuseFirst, checked}
+
+-- none of 1 to 4
+pub record LengthsFit (c : Call) : Type 0 where
+  pub whole : notWhole c ≡ false
+  pub few : tooMany c ≡ false
+  pub one-each : listsDiffer c ≡ false
+  pub long : journalShort c ≡ false
+
+-- e is the first of n edges that the test holds of
+pub record IsFirst (test : ℕ → Bool) (n e : ℕ) : Type 0 where
+  pub is-edge : e < n
+  pub holds : test e ≡ true
+  pub before : NoneBelow test e
+
+pub data Row (c : Call) : Check → Type 0 where
+  row-1 : notWhole c ≡ true → Row c (Refused NotWhole)
+  row-2 : notWhole c ≡ false → tooMany c ≡ true → Row c (Refused TooMany)
+  row-3 : notWhole c ≡ false → tooMany c ≡ false → listsDiffer c ≡ true → Row c (Refused ListsDiffer)
+  row-4 : notWhole c ≡ false → tooMany c ≡ false → listsDiffer c ≡ false → journalShort c ≡ true → Row c (Refused JournalShort)
+  row-5 : {e : ℕ} → LengthsFit c → IsFirst (edgeFault (c .list)) (edgesIn (c .list)) e → pastRange (c .list) e ≡ true → Row c (Refused (PastRange e))
+  row-6 : {e : ℕ} → LengthsFit c → IsFirst (edgeFault (c .list)) (edgesIn (c .list)) e → pastRange (c .list) e ≡ false → equalEnds (c .list) e ≡ true → Row c (Refused (EqualEnds e))
+  row-7 : {e : ℕ} → LengthsFit c → IsFirst (edgeFault (c .list)) (edgesIn (c .list)) e → pastRange (c .list) e ≡ false → equalEnds (c .list) e ≡ false → topFalls (c .list) e ≡ true → Row c (Refused (TopFalls e))
+  row-8 : {e : ℕ} → LengthsFit c → NoneBelow (edgeFault (c .list)) (edgesIn (c .list)) → IsFirst (repeats (sheetOf (c .list))) (edgesIn (c .list)) e → Row c (Refused (Repeated e))
+  row-9 : {e : ℕ} → LengthsFit c → NoneBelow (edgeFault (c .list)) (edgesIn (c .list)) → NoneBelow (repeats (sheetOf (c .list))) (edgesIn (c .list)) → IsFirst (uneven (sheetOf (c .list))) (edgesIn (c .list)) e → Row c (Refused (Uneven e))
+  no-row : LengthsFit c → NoneBelow (edgeFault (c .list)) (edgesIn (c .list)) → NoneBelow (repeats (sheetOf (c .list))) (edgesIn (c .list)) → NoneBelow (uneven (sheetOf (c .list))) (edgesIn (c .list)) → Row c Passed
+
+-- a test decides between a refusal and the rest
+module _ (P : Check → Type 0) where
+  tried : (t : Bool) {r : Refusal} {rest : Check} → (t ≡ true → P (Refused r)) → (t ≡ false → P rest) → P (refuseIf t r rest)
+  tried true a b = a refl
+  tried false a b = b refl
+
+  tried-all : (test : ℕ → Bool) (n : ℕ) (refusal : ℕ → Refusal) {rest : Check} → ((e : ℕ) → IsFirst test n e → P (Refused (refusal e))) → (NoneBelow test n → P rest) → P (refuseFirst test n refusal rest)
+  tried-all test n refusal a b = tried (ltb (first test n) n) here (λ h. b (λ k l. let m : n ≤ first test n = ltb-false _ _ h in first-least test n k (omega arith)))
+    where
+      here : ltb (first test n) n ≡ true → P (Refused (refusal (first test n)))
+      here h = let l : first test n < n = ltb-true _ _ h in a (first test n) (record { is-edge = l; holds = first-holds test n l; before = first-least test n })
+
+-- which of 5, 6 and 7 the first edge with one of them has
+fault-row : (c : Call) (e : ℕ) → LengthsFit c → IsFirst (edgeFault (c .list)) (edgesIn (c .list)) e → Row c (Refused (faultOf (c .list) e))
+fault-row c e l f = by (pastRange s e) (equalEnds s e) (topFalls s e) refl refl refl (f .holds)
+  where
+    s : List ℤ
+    s = c .list
+
+    by : (x y z : Bool) → pastRange s e ≡ x → equalEnds s e ≡ y → topFalls s e ≡ z → (x || (y || z)) ≡ true → Row c (Refused (cond x (PastRange e) (cond y (EqualEnds e) (TopFalls e))))
+    by true y z p q r h = row-5 l f p
+    by false true z p q r h = row-6 l f p q
+    by false false true p q r h = row-7 l f p q r
+    by false false false p q r h = absurd (not-both h refl)
+
+pub row : (c : Call) → Row c (checked c)
+unfolding checked
+row c =
+    tried (Row c) (notWhole c) row-1 (λ w.
+    tried (Row c) (tooMany c) (row-2 w) (λ m.
+    tried (Row c) (listsDiffer c) (row-3 w m) (λ o.
+    tried (Row c) (journalShort c) (row-4 w m o) (λ j.
+    let l : LengthsFit c = record { whole = w; few = m; one-each = o; long = j } in
+    tried-all (Row c) (edgeFault (c .list)) (edgesIn (c .list)) (faultOf (c .list)) (λ e f. fault-row c e l f) (λ f.
+    tried-all (Row c) (repeats (sheetOf (c .list))) (edgesIn (c .list)) Repeated (λ e h. row-8 l f h) (λ r.
+    tried-all (Row c) (uneven (sheetOf (c .list))) (edgesIn (c .list)) Uneven (λ e h. row-9 l f r h) (λ u.
+    no-row l f r u)))))))

@@ -1,0 +1,99 @@
+-- 5 to 7 at an edge. Tested against the top before it, an edge has a fault where the answer sheet says so: no point of the range is below the lowest
+-- one, which stands before the first edge. An edge without a fault has two ends, both in the range, and a top that does not fall.
+use mathlib.Core.Path.{_≡_, refl, sym, ap, _∙_}
+use mathlib.Core.Bool.{Bool, true, false, cond, _||_}
+use mathlib.Core.List.{List}
+use Prim.Native.Nat.{ℕ, zero, suc, _+_, _≤_}
+use native.Mathlib.Numerals.{add-one}
+use lib.Dec.{leb}
+use lib.IntN.{ℤ, pos, negsuc}
+use lib.Signed.{ltZ}
+use borrow.Author.Tests.{le-ltb, leb-true}
+use Rattle.laws.proofs.Deciding.{both-true, neither-true}
+use Rattle.laws.proofs.Tests.{not-false}
+use Rattle.sheet.specs.declared.Point.{Point}
+use Rattle.sheet.specs.declared.Edge.{Edge}
+use Rattle.sheet.specs.Points.{sameZ, within, inRange, isSame, isBelow, isUp, topOf, bottomOf}
+use Rattle.sheet.specs.Edges.{edgeAt}
+use Rattle.sheet.specs.Answers.{pastRange, equalEnds, topFalls, edgeFault}
+use Rattle.checks.specs.Faults.{endPastRange, endsEqual, faultAfter, topBefore}
+
+not-under : (z : ℤ) → within z ≡ true → ltZ z (negsuc 999999) ≡ false
+unfolding within
+not-under (pos n) h = refl
+not-under (negsuc n) h = let l : n ≤ 999999 = leb-true _ _ (both-true (leb n 999999) true h .0) in le-ltb 999999 n l
+
+lowest : Point
+lowest = record { x = negsuc 999999; y = negsuc 999999 }
+
+not-below-lowest : (p : Point) → inRange p ≡ true → isBelow p lowest ≡ false
+unfolding inRange isBelow lowest
+not-below-lowest p h = let w = both-true (within (p .x)) (within (p .y)) h in by (sameZ (p .y) (negsuc 999999)) (not-under (p .x) (w .0)) (not-under (p .y) (w .1))
+  where
+    by : (t : Bool) {a b : Bool} → a ≡ false → b ≡ false → cond t a b ≡ false
+    by true x y = x
+    by false x y = y
+
+pub top-in-range : (e : Edge) → inRange (e .tail) ≡ true → inRange (e .head) ≡ true → inRange (topOf e) ≡ true
+unfolding topOf
+top-in-range e t h = by (isUp e)
+  where
+    by : (u : Bool) → inRange (cond u (e .head) (e .tail)) ≡ true
+    by true = h
+    by false = t
+
+pub bottom-in-range : (e : Edge) → inRange (e .tail) ≡ true → inRange (e .head) ≡ true → inRange (bottomOf e) ≡ true
+unfolding bottomOf
+bottom-in-range e t h = by (isUp e)
+  where
+    by : (u : Bool) → inRange (cond u (e .tail) (e .head)) ≡ true
+    by true = t
+    by false = h
+
+ends-in-range : (e : Edge) → endPastRange e ≡ false → (inRange (e .tail) ≡ true) × (inRange (e .head) ≡ true)
+unfolding endPastRange
+ends-in-range e h = both-true (inRange (e .tail)) (inRange (e .head)) (not-false _ h)
+
+-- the top of the first edge is not below the lowest point, unless it is out of the range
+pub fault-after : (s : List ℤ) (e : ℕ) → faultAfter (topBefore s e) (edgeAt s e) ≡ edgeFault s e
+unfolding faultAfter topBefore endPastRange pastRange equalEnds topFalls lowest
+fault-after s zero = by (endPastRange (edgeAt s 0)) (endsEqual (edgeAt s 0)) (λ h. let w = ends-in-range (edgeAt s 0) h in not-below-lowest _ (top-in-range (edgeAt s 0) (w .0) (w .1)))
+  where
+    by : (past equal : Bool) {below : Bool} → (past ≡ false → below ≡ false) → (past || (equal || below)) ≡ (past || (equal || false))
+    by true equal h = refl
+    by false equal h = ap (λ (b : Bool). equal || b) (h refl)
+fault-after s (suc e) = refl
+
+-- the top before the next edge
+pub top-before-next : (s : List ℤ) (e : ℕ) → topBefore s (e + 1) ≡ topOf (edgeAt s e)
+unfolding topBefore
+top-before-next s e = rw add-one
+
+-- what the tests answer of an edge that was read
+module _ (s : List ℤ) (e : ℕ) {edge : Edge} {r : Bool} (read : edge ≡ edgeAt s e) where
+  pub fault-told : {before : Point} → before ≡ topBefore s e → r ≡ faultAfter before edge → edgeFault s e ≡ r
+  fault-told b h = sym (fault-after s e) ∙ ap (λ (p : Point). faultAfter p (edgeAt s e)) (sym b) ∙ ap (faultAfter _) (sym read) ∙ sym h
+
+  pub past-told : r ≡ endPastRange edge → pastRange s e ≡ r
+  unfolding pastRange endPastRange
+  past-told h = ap endPastRange (sym read) ∙ sym h
+
+  pub equal-told : r ≡ endsEqual edge → equalEnds s e ≡ r
+  unfolding equalEnds
+  equal-told h = ap endsEqual (sym read) ∙ sym h
+
+module _ (s : List ℤ) (e : ℕ) (none : edgeFault s e ≡ false) where
+  pub tail-in-range : inRange (edgeAt s e .tail) ≡ true
+  unfolding pastRange endPastRange
+  tail-in-range = ends-in-range (edgeAt s e) (neither-true _ _ none .0) .0
+
+  pub head-in-range : inRange (edgeAt s e .head) ≡ true
+  unfolding pastRange endPastRange
+  head-in-range = ends-in-range (edgeAt s e) (neither-true _ _ none .0) .1
+
+  pub ends-differ : isSame (edgeAt s e .tail) (edgeAt s e .head) ≡ false
+  unfolding equalEnds
+  ends-differ = neither-true _ _ (neither-true (pastRange s e) _ none .1) .0
+
+  pub top-stays : topFalls s e ≡ false
+  top-stays = neither-true (equalEnds s e) _ (neither-true (pastRange s e) _ none .1) .1

@@ -1,0 +1,12 @@
+pub mod EdgeFaults
+pub mod Keys
+pub mod InOrder
+pub mod LeastPlace
+pub mod SameKind
+pub mod Words
+pub mod Numbers
+pub mod Repeating
+pub mod Walking
+pub mod Answering
+pub mod AnswerSheet
+pub mod Passed

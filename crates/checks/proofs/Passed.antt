@@ -1,0 +1,140 @@
+-- What every later step goes by: a call that passes the nine checks has its lists of the right lengths, every end in the range, and a checked sheet.
+-- Each field of `Checked` is one of 5 to 9 that was not given; a place is its own height, so places of one height are one, and no place is apart.
+use mathlib.Core.Path.{_≡_, refl, sym, ap, _∙_, subst}
+use mathlib.Core.Bool.{true, false}
+use mathlib.Core.List.{List}
+use mathlib.Core.Logic.{⊎-elim}
+use Prim.Native.Nat.{ℕ, _+_, _*_, _/_, _%_, _≤_, _<_, max}
+use native.Mathlib.Omega.{arith}
+use lib.IntN.{ℤ}
+use lib.ListN.{length}
+use borrow.Author.Tests.{ltb-false, eqb-true, eq-eqb, ne-eqb}
+use Rattle.laws.proofs.Deciding.{lt-or-le, true-or-false, not-both, both-true, neither-true}
+use Rattle.laws.proofs.Tests.{not-false}
+use Rattle.laws.proofs.Counting.{count-none}
+use Rattle.laws.proofs.First.{none-below}
+use Rattle.laws.proofs.Searching.{NoneBelow}
+use Rattle.sheet.specs.declared.Check.the-variants.{Passed}
+use Rattle.sheet.specs.Points.{inRange}
+use Rattle.sheet.specs.Edges.{edgeAt, edgesIn, sheetOf, SweepOrder}
+use Rattle.sheet.specs.Kinds.{Way, arriving, leaving, From, below, above, endOf, comes, numberAt}
+use Rattle.sheet.specs.Answers.{Call, notWhole, tooMany, listsDiffer, journalShort, sameFrom, sameKind, repeats, differ, uneven, checked}
+use Rattle.sheet.proofs.Checked.{Checked}
+use Rattle.checks.specs.Faults.{Faultless}
+use Rattle.checks.specs.Keys.{topKey}
+use Rattle.checks.proofs.Keys.{Goes, up, down, goes, tail-in, head-in, tops-rise}
+use Rattle.checks.proofs.AnswerSheet.{LengthsFit, Row, no-row, row}
+
+pub record AllPassed (c : Call) : Type 0 where
+  pub whole : length (c .list) ≡ 4 * edgesIn (c .list)
+  pub few : edgesIn (c .list) ≤ 4096
+  pub polygons : c .polygons ≡ edgesIn (c .list)
+  pub sequences : c .sequences ≡ edgesIn (c .list)
+  pub journal : 8 * edgesIn (c .list) ≤ c .journal
+  pub tails-in-range : (e : ℕ) → e < edgesIn (c .list) → inRange (edgeAt (c .list) e .tail) ≡ true
+  pub heads-in-range : (e : ℕ) → e < edgesIn (c .list) → inRange (edgeAt (c .list) e .head) ≡ true
+  pub sheet : Checked (sheetOf (c .list))
+
+-- 8 is not given: no two edges of one kind at one place
+module _ (s : List ℤ) (once : NoneBelow (repeats (sheetOf s)) (edgesIn s)) where
+  earlier : (w : Way) (e f : ℕ) → e < f → f < edgesIn s → endOf (sheetOf s) w e ≡ endOf (sheetOf s) w f → comes (sheetOf s) w e ≡ comes (sheetOf s) w f → ⊥
+  unfolding repeats sameKind
+  earlier w e f l h p q = by w p q (neither-true _ _ (none-below _ f (once f h) e l))
+    where
+      alike : (w : Way) → endOf (sheetOf s) w e ≡ endOf (sheetOf s) w f → comes (sheetOf s) w e ≡ comes (sheetOf s) w f → sameKind (sheetOf s) w f e ≡ true
+      alike w p q = rw (eq-eqb (endOf (sheetOf s) w f) (endOf (sheetOf s) w e) (sym p), q) (self (comes (sheetOf s) w f))
+        where
+          self : (a : From) → sameFrom a a ≡ true
+          self below = refl
+          self above = refl
+
+      by : (w : Way) → endOf (sheetOf s) w e ≡ endOf (sheetOf s) w f → comes (sheetOf s) w e ≡ comes (sheetOf s) w f → (sameKind (sheetOf s) arriving f e ≡ false) × (sameKind (sheetOf s) leaving f e ≡ false) → ⊥
+      by arriving p q n = not-both (alike arriving p q) (n .0)
+      by leaving p q n = not-both (alike leaving p q) (n .1)
+
+  single : (w : Way) (e f : ℕ) → e < edgesIn s → f < edgesIn s → endOf (sheetOf s) w e ≡ endOf (sheetOf s) w f → comes (sheetOf s) w e ≡ comes (sheetOf s) w f → e ≡ f
+  single w e f el fl p q = ⊎-elim (λ l. absurd (earlier w e f l fl p q)) (λ l. ⊎-elim (λ m. absurd (earlier w f e m el (sym p) (sym q))) (λ m. omega arith) (lt-or-le f e)) (lt-or-le e f)
+
+-- 9 is not given: at a place with an edge as many arrive as leave, and where there is none both are 0
+module _ (s : List ℤ) (level : NoneBelow (uneven (sheetOf s)) (edgesIn s)) (p : ℕ) where
+  differ-not : differ (sheetOf s) p ≡ false → numberAt (sheetOf s) arriving p ≡ numberAt (sheetOf s) leaving p
+  unfolding differ
+  differ-not h = eqb-true _ _ (not-false _ h)
+
+  at-end : (e : ℕ) → e < edgesIn s → (w : Way) → endOf (sheetOf s) w e ≡ p → differ (sheetOf s) p ≡ false
+  unfolding uneven
+  at-end e l arriving q = ap (differ (sheetOf s)) (sym q) ∙ neither-true (differ (sheetOf s) (sheetOf s .tail e)) _ (level e l) .1
+  at-end e l leaving q = ap (differ (sheetOf s)) (sym q) ∙ neither-true _ (differ (sheetOf s) (sheetOf s .head e)) (level e l) .0
+
+  nobody : differ (sheetOf s) p ≡ true → (w : Way) → numberAt (sheetOf s) w p ≡ 0
+  unfolding numberAt sheetOf
+  nobody h w = count-none _ (edgesIn s) (λ e l. ne-eqb _ _ (λ q. not-both h (at-end e l w q)))
+
+  even : numberAt (sheetOf s) arriving p ≡ numberAt (sheetOf s) leaving p
+  even = ⊎-elim (λ h. nobody h arriving ∙ sym (nobody h leaving)) differ-not (true-or-false (differ (sheetOf s) p))
+
+-- 5 to 7 are not given
+module _ {s : List ℤ} (F : Faultless s (edgesIn s)) where
+  proper : (e : ℕ) → e < edgesIn s → sheetOf s .tail e ≡ sheetOf s .head e → ⊥
+  proper e l q = by (goes F e l)
+    where
+      by : Goes s e → ⊥
+      by (up h t b) = omega arith
+      by (down h t b) = omega arith
+
+  top-height : (e : ℕ) → e < edgesIn s → topKey s e / 2 ≡ max (sheetOf s .tail e) (sheetOf s .head e)
+  top-height e l = by (goes F e l)
+    where
+      by : Goes s e → topKey s e / 2 ≡ max (sheetOf s .tail e) (sheetOf s .head e)
+      by (up h t b) = omega arith
+      by (down h t b) = omega arith
+
+  order : SweepOrder (sheetOf s)
+  unfolding sheetOf
+  order e l = omega (arith, top-height e (omega arith), top-height (e + 1) l, tops-rise F e (e + 1) (omega arith) l)
+
+pub sheet-checked : (s : List ℤ) → Faultless s (edgesIn s) → NoneBelow (repeats (sheetOf s)) (edgesIn s) → NoneBelow (uneven (sheetOf s)) (edgesIn s) → Checked (sheetOf s)
+unfolding sheetOf
+sheet-checked s F once level = record {
+  flat = λ p q f h. h;
+  one-film = λ e l. refl;
+  proper = proper F;
+  order = order F;
+  sound = record { single = single s once; even = even s level };
+  parted = λ e l a. absurd (not-both a refl);
+}
+
+-- the numbers that 1 to 4 compare
+module _ (c : Call) (l : LengthsFit c) where
+  whole : length (c .list) ≡ 4 * edgesIn (c .list)
+  unfolding notWhole edgesIn
+  whole = let h : length (c .list) % 4 ≡ 0 = eqb-true _ _ (not-false _ (l .whole)) in omega arith
+
+  few : edgesIn (c .list) ≤ 4096
+  unfolding tooMany
+  few = ltb-false _ _ (l .few)
+
+  one-each : (c .polygons ≡ edgesIn (c .list)) × (c .sequences ≡ edgesIn (c .list))
+  unfolding listsDiffer
+  one-each = let w = both-true _ _ (not-false _ (l .one-each)) in (eqb-true _ _ (w .0), eqb-true _ _ (w .1))
+
+  long : 8 * edgesIn (c .list) ≤ c .journal
+  unfolding journalShort
+  long = ltb-false _ _ (l .long)
+
+all-passed : (c : Call) → Row c Passed → AllPassed c
+all-passed c (no-row l f r u) =
+    let F : Faultless (c .list) (edgesIn (c .list)) = record { all = refl; few = few c l; long = omega (arith, whole c l); none = f } in
+    record {
+      whole = whole c l;
+      few = few c l;
+      polygons = one-each c l .0;
+      sequences = one-each c l .1;
+      journal = long c l;
+      tails-in-range = tail-in F;
+      heads-in-range = head-in F;
+      sheet = sheet-checked (c .list) F r u;
+    }
+
+pub passed : (c : Call) → checked c ≡ Passed → AllPassed c
+passed c q = all-passed c (subst (Row c) q (row c))

@@ -1,0 +1,15 @@
+-- `checks::faults::first_refusal` meets its contract: each way out computes from the tests that led there.
+use Rattle.checks.proofs.faults.first_refusal.Statement.{statement}
+use Rattle.checks.proofs.faults.first_refusal.Tie as tie
+
+returns : tie.Need-returns
+returns c = rw (c .if1 .taken)
+
+returns-2 : tie.Need-returns-2
+returns-2 c = rw (c .before .if1 .left, c .if2 .taken)
+
+returns-3 : tie.Need-returns-3
+returns-3 c = rw (c .before .if1 .left, c .if2 .left)
+
+pub first-refusal-spec : {M : Type 1} → statement M
+first-refusal-spec = tie.close (tie.spec returns returns-2 returns-3)

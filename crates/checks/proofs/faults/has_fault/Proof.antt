@@ -1,0 +1,46 @@
+-- `checks::faults::has_fault` meets its contract: each way out computes from the tests that led there.
+use mathlib.Core.Path.{sym, ap, _∙_}
+use borrow.Author.Needs.{needs}
+use Rattle.sheet.specs.declared.Point.{Point}
+use Rattle.sheet.specs.Points.{isBelow}
+use Rattle.checks.specs.Faults.{faultAfter}
+use Rattle.checks.proofs.faults.has_fault.Statement.{statement}
+use Rattle.checks.proofs.faults.has_fault.Tie as tie
+
+past-range-requires : tie.Need-past-range-requires
+past-range-requires c κs = search needs
+
+returns : tie.Need-returns
+unfolding faultAfter
+returns c = rw (sym (c .before .past-range .ensures) ∙ c .if1 .taken)
+
+equal-ends-requires : tie.Need-equal-ends-requires
+equal-ends-requires c κs = search needs
+
+returns-2 : tie.Need-returns-2
+unfolding faultAfter
+returns-2 c = rw (sym (c .before .before .before .past-range .ensures) ∙ c .before .before .if1 .left, sym (c .before .equal-ends .ensures) ∙ c .if2 .taken)
+
+top-requires : tie.Need-top-requires
+top-requires c κs = search needs
+
+top-falls-requires : tie.Need-top-falls-requires
+top-falls-requires c κs = search needs
+
+returns-3 : tie.Need-returns-3
+unfolding faultAfter
+returns-3 c = let before = c .before .before .before .before .before .before .args .before in
+    rw (sym (c .before .before .before .before .before .past-range .ensures) ∙ c .before .before .before .before .if1 .left, sym (c .before .before .before .equal-ends .ensures) ∙ c .before .before .if2 .left)
+    (c .top-falls .ensures ∙ ap (λ (p : Point). isBelow p before) (c .before .top .ensures))
+
+pub has-fault-spec : {M : Type 1} → statement M
+has-fault-spec =
+    tie.close
+    (tie.spec
+    past-range-requires
+    returns
+    equal-ends-requires
+    returns-2
+    top-requires
+    top-falls-requires
+    returns-3)

@@ -1,0 +1,24 @@
+-- `checks::repeats::first_repeat` meets its contract: the lower of the two is the first.
+use mathlib.Core.Path.{_∙_}
+use borrow.Author.Needs.{needs}
+use Rattle.checks.proofs.Repeating.{first-repeat-is}
+use Rattle.checks.proofs.repeats.first_repeat.Statement.{statement}
+use Rattle.checks.proofs.repeats.first_repeat.Tie as tie
+
+first-top-again-requires : tie.Need-first-top-again-requires
+first-top-again-requires c κs = search needs
+
+first-bottom-again-requires : tie.Need-first-bottom-again-requires
+first-bottom-again-requires c κs = search needs
+
+lower-of-requires : tie.Need-lower-of-requires
+lower-of-requires c κs = search needs
+
+returns : tie.Need-returns
+returns c = let pre = c .before .before .before .before .pre in
+    c .lower-of .ensures ∙ first-repeat-is (pre .0) (pre .1) (c .before .before .first-top-again .ensures) (c .before .first-bottom-again .ensures)
+
+pub first-repeat-spec : {M : Type 1} → statement M
+first-repeat-spec =
+    tie.close
+    (tie.spec first-top-again-requires first-bottom-again-requires lower-of-requires returns)

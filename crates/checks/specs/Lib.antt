@@ -1,0 +1,5 @@
+pub mod Faults
+pub mod Keys
+pub mod Twins
+pub mod Meetings
+pub mod KindsChecked

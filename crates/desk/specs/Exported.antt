@@ -1,0 +1,42 @@
+-- The answers as plain numbers: for each case of the inner answers the paper's number, place and values.
+use Prim.Native.Nat.{ℕ}
+use mathlib.Core.Path.{_≡_}
+use mathlib.Core.List.{List}
+use lib.IntN.{ℤ}
+use lib.ListN.{length}
+use Rattle.sheet.specs.declared.Answer.{Answer}
+use Rattle.sheet.specs.declared.Answer.the-variants as answer
+use Rattle.sheet.specs.declared.TurnAnswer.{TurnAnswer}
+use Rattle.sheet.specs.declared.TurnAnswer.the-variants as turn
+use Rattle.sheet.specs.Answers.{numberOf, placeOf}
+use Rattle.sheet.specs.TurnList.{turnNumberOf, turnPlaceOf, turned, TurnsAfter}
+use Rattle.numbering.specs.Outcome.{Left}
+use Rattle.desk.specs.declared.Sheet.{Sheet}
+use Rattle.desk.specs.declared.Turned.{Turned}
+
+abbrev pub sheetFrom : Answer → Sheet
+sheetFrom (answer.Accepted polygons peak records) = record { refusal = 0; place = 0; polygons = polygons; peak = peak; records = records }
+sheetFrom (answer.Refused r) = record { refusal = numberOf r; place = placeOf r; polygons = 0; peak = 0; records = 0 }
+
+abbrev pub turnedFrom : TurnAnswer → Turned
+turnedFrom (turn.Accepted polygons) = record { refusal = 0; place = 0; polygons = polygons }
+turnedFrom (turn.Refused r) = record { refusal = turnNumberOf r; place = turnPlaceOf r; polygons = 0 }
+
+-- the answer with the four slices as they are left
+pub record Exported : Type 0 where
+  pub sheet : Sheet
+  pub polygons : List ℕ
+  pub sequences : List ℕ
+  pub journal : List ℤ
+  pub rows : List ℤ
+
+abbrev pub left : Sheet → List ℕ → List ℕ → List ℤ → List ℤ → Exported
+left sheet polygons sequences journal rows = record { sheet = sheet; polygons = polygons; sequences = sequences; journal = journal; rows = rows }
+
+abbrev pub leftBy : Left → Exported
+leftBy x = left (sheetFrom (x .answer)) (x .polygons) (x .sequences) (x .journal) (x .rows)
+
+-- the turn list as it is left, and the answer by its numbers
+pub record ReadTurns (polygons sequences before after : List ℕ) (r : Turned) : Type 0 where
+  pub answer : r ≡ turnedFrom (turned polygons sequences (length before))
+  pub turns : TurnsAfter polygons sequences (turned polygons sequences (length before)) before after

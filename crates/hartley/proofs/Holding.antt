@@ -1,0 +1,133 @@
+-- Every number that the sweep down gives fits. When a record was written its owner's path had a first edge, so far before the reference point (`Held`); what
+-- the record gives its owner is therefore that edge's answer moved by as much: the same polygon, and a sequence number that is 0 or more and below
+-- twice the edges. The rows that records name are rows lent.
+use mathlib.Core.Path.{_≡_, refl, ap, sym, _∙_}
+use mathlib.Core.Bool.{true}
+use mathlib.Core.List.{List, _∷_}
+use Prim.Native.Nat.{ℕ, zero, suc, _+_, _-_, _*_, _≤_, _<_}
+use native.Mathlib.Omega.{arith}
+use lib.IntN.{ℤ, pos, _+ℤ_, +ℤ-assoc}
+use Rattle.laws.specs.Counting.{count}
+use Rattle.laws.proofs.Pigeonhole.{pigeon}
+use Rattle.steps.specs.Rows.{Chain, inRow, closing, Record}
+use Rattle.steps.specs.SweepDown.{Numbers, Reading, readRecord, sweepDown}
+use Rattle.steps.specs.Plain.{plainTables, plainJournal}
+use Rattle.steps.proofs.AlikeDown.{Holding, GiveHeld, RecordHeld, AllHeld}
+use Rattle.hartley.specs.Swept.{readDown}
+use Rattle.hartley.proofs.Differences.{diff, after-back}
+use Rattle.hartley.proofs.Down as down
+use Rattle.hartley.proofs.Down.{Name, ofEdge, ofRow, nameAt, same-name?, at, done, place, move, eval, shift}
+use Rattle.hartley.proofs.Reading.{recOf, recs, numbersOf, reading-law}
+use Rattle.hartley.proofs.Paths.{out, pick-yes}
+use Rattle.hartley.proofs.Seams.{walk-out}
+use Rattle.hartley.proofs.Changes.{Work}
+use Rattle.hartley.proofs.Limits.{count-every}
+use Rattle.hartley.proofs.Setting.{Setting, Held, nameIn, NameFits, ChainFits}
+use Rattle.hartley.proofs.Ended.{Finished}
+use Rattle.hartley.proofs.Numbers.{answer-is}
+
+-- numbers that fit a list of so many edges
+pub record Fits (edges : ℕ) (v : Numbers) : Type 0 where
+  pub from-one : 1 ≤ v .polygon
+  pub polygon-small : v .polygon ≤ edges
+  pub at : ℕ
+  pub at-small : at < 2 * edges
+  pub sequence-is : v .sequence ≡ pos at
+
+module _ (A : Setting) (s : Work) (F : Finished A s) where
+  abbrev edges : ℕ
+  edges = A .sheet .edges
+
+  -- an outline has no more edges than the list, and there are no more outlines
+  index-small : (e k i : ℕ) → F .paths .spot e ≡ out k i → i < edges
+  index-small e k i q =
+      let w = F .outs .within e k i q in
+      omega (arith, pigeon (λ a x. F .paths .spot x ≡ out k a) one (λ a. true) (λ x. true) (suc i) edges (λ a l t. let v = walk-out (F .outs) k a (w .0) (omega (arith, w .1)) in (v .0, F .outs .real _ k a (v .1), refl, v .1)), count-every (suc i), count-every edges)
+    where
+      one : (a b x : ℕ) → F .paths .spot x ≡ out k a → F .paths .spot x ≡ out k b → a ≡ b
+      one a b x u v = cc
+
+  rounds-few : F .paths .rounds .count ≤ edges
+  rounds-few = omega (arith, pigeon (λ k x. F .paths .spot x ≡ out k 0) one (λ k. true) (λ x. true) (F .paths .rounds .count) edges (λ k l t. (F .paths .rounds .lead k, F .outs .real _ k 0 (F .outs .first k l), refl, F .outs .first k l)), count-every (F .paths .rounds .count), count-every edges)
+    where
+      one : (a b x : ℕ) → F .paths .spot x ≡ out a 0 → F .paths .spot x ≡ out b 0 → a ≡ b
+      one a b x u v = cc
+
+  module _ (table answers : ℕ → Numbers) where
+    abbrev Read : Type 0
+    Read = Reading (ℕ → Numbers) (ℕ → Numbers)
+
+    abbrev final : Read
+    final = readDown (s .journal) (s .records) table answers
+
+    -- the reading from d on gives the answers
+    abbrev Onwards : ℕ → Read → Type 0
+    Onwards m d = (e : ℕ) → e < edges → sweepDown plainTables plainJournal (s .journal) m d .answers e ≡ final .answers e
+
+    -- numbers that are an edge's answer moved forward
+    fits-by : (e f : ℕ) → e < edges → f ≤ edges → (v : Numbers) → final .answers e ≡ record { polygon = v .polygon; sequence = v .sequence +ℤ diff 0 f } → Fits edges v
+    fits-by e f l m v q =
+        let c = F .closed e l in
+        let a = sym (answer-is A s F table answers e (c .0) (c .1) l (c .2)) ∙ q in
+        let w = F .outs .within e (c .0) (c .1) (c .2) in
+        record {
+          from-one = omega (arith, ap (λ v. v .polygon) a);
+          polygon-small = omega (arith, ap (λ v. v .polygon) a, w .0, rounds-few);
+          at = c .1 + f;
+          at-small = omega (arith, index-small e (c .0) (c .1) (c .2));
+          sequence-is = after-back (v .sequence) f (c .1) (sym (ap (λ v. v .sequence) a));
+        }
+
+    -- what one record gives
+    module _ (d : Read) (m : ℕ) (on : Onwards (suc m) d) where
+      abbrev entry : Record
+      entry = s .journal m
+
+      given-by : (c : Chain) (J : List down.Rec) (e f : ℕ) → place J (ofEdge e) ≡ at (nameIn entry c) (diff 0 f) → Numbers
+      given-by (inRow r) J e f q = record { polygon = d .table r .polygon; sequence = d .table r .sequence +ℤ entry .offset }
+      given-by closing J e f q = record { polygon = d .polygons + 1; sequence = entry .offset }
+
+      read-first : (c : Chain) (J : List down.Rec) (e f : ℕ) (q : place J (ofEdge e) ≡ at (nameIn entry c) (diff 0 f))
+          → eval (numbersOf d) (d .polygons + 1) (place (recOf entry c ∷ J) (ofEdge e)) ≡ record { polygon = given-by c J e f q .polygon; sequence = given-by c J e f q .sequence +ℤ diff 0 f }
+      unfolding place eval shift given-by
+      read-first (inRow r) J e f q = ap (λ w. eval (numbersOf d) (d .polygons + 1) (move (recOf entry (inRow r)) w)) q ∙ ap (eval (numbersOf d) (d .polygons + 1)) put-moves ∙ (λ i. record { polygon = d .table r .polygon; sequence = sym (+ℤ-assoc (d .table r .sequence) (entry .offset) (diff 0 f)) i })
+        where
+          o : Name
+          o = nameAt (entry .level) (entry .name)
+
+          put-moves : move (down.put o r (entry .offset)) (at o (diff 0 f)) ≡ at (ofRow r) (entry .offset +ℤ diff 0 f)
+          put-moves = unfold move in pick-yes (same-name? o o) _ _ refl
+      read-first closing J e f q = ap (λ w. eval (numbersOf d) (d .polygons + 1) (move (recOf entry closing) w)) q ∙ ap (eval (numbersOf d) (d .polygons + 1)) close-moves ∙ (λ i. record { polygon = zero-more i; sequence = entry .offset +ℤ diff 0 f })
+        where
+          close-moves : move (down.close (ofRow (entry .name)) (entry .offset)) (at (ofRow (entry .name)) (diff 0 f)) ≡ done 0 (entry .offset +ℤ diff 0 f)
+          close-moves = unfold move in pick-yes (same-name? (ofRow (entry .name)) (ofRow (entry .name))) _ _ refl
+
+          zero-more : d .polygons + 1 + 0 ≡ d .polygons + 1
+          zero-more = omega arith
+
+      given-fits : (h : Held A entry (recs (s .journal) m)) → Fits edges (given-by (entry .chain) (recs (s .journal) m) (h .first) (h .before) (h .there))
+      unfolding recs
+      given-fits h = fits-by (h .first) (h .before) (h .real) (h .short) _
+          (sym (on (h .first) (h .real)) ∙ reading-law (s .journal) (suc m) d (ofEdge (h .first)) ∙ read-first (entry .chain) (recs (s .journal) m) (h .first) (h .before) (h .there))
+
+    -- all of it can be held by tables for such rows, edges and numbers
+    module _ (H : Holding) (in-row : (r : ℕ) → r < A .rows → H .Row r) (row-holds : (r : ℕ) (v : Numbers) → r < A .rows → Fits edges v → H .InRow r v) (answer-holds : (e : ℕ) (v : Numbers) → e < edges → Fits edges v → H .InAnswer e v) where
+      give-held : (level name : ℕ) (v : Numbers) → NameFits A level name → Fits edges v → GiveHeld plainTables H level name v
+      give-held zero name v l f = answer-holds name v l f
+      give-held (suc level) name v l f = row-holds name v l f
+
+      record-held : (d : Read) (m : ℕ) (on : Onwards (suc m) d) (h : Held A (s .journal m) (recs (s .journal) m)) (c : Chain) → ChainFits A (s .journal m) c → (q : place (recs (s .journal) m) (ofEdge (h .first)) ≡ at (nameIn (s .journal m) c) (diff 0 (h .before)))
+          → Fits edges (given-by d m on c (recs (s .journal) m) (h .first) (h .before) q) → RecordHeld plainTables H d (s .journal m) c
+      unfolding given-by plainTables
+      record-held d m on h (inRow r) l q f = (in-row r (l .0), give-held (s .journal m .level) (s .journal m .name) _ (l .1) f)
+      record-held d m on h closing l q f = row-holds (s .journal m .name) _ l f
+
+      held-from : (m : ℕ) → m ≤ s .records → (d : Read) → Onwards m d → AllHeld plainTables H plainJournal (s .journal) m d
+      unfolding plainJournal sweepDown
+      held-from zero l d on = tt
+      held-from (suc m) l d on =
+          let h = F .held m l in
+          (record-held d m on h (s .journal m .chain) (h .fits) (h .there) (given-fits d m on h), held-from m (omega arith) (readRecord plainTables d (s .journal m) (s .journal m .chain)) on)
+
+      pub all-held : AllHeld plainTables H plainJournal (s .journal) (s .records) (record { table = table; answers = answers; polygons = 0 })
+      all-held = held-from (s .records) (omega arith) _ (λ e l. refl)

@@ -1,0 +1,4 @@
+pub mod Signs
+pub mod Zeros
+pub mod Sets
+pub mod Writing

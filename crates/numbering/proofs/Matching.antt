@@ -1,0 +1,127 @@
+-- The slices and the plain tables hold the same: points in the range and their ranks compare alike, a row in the slice looks like the plain row
+-- after each write, and the records written are read back. So the steps on slices end as the steps on plain tables do.
+use mathlib.Core.Path.{_≡_, refl, sym, ap, _∙_}
+use mathlib.Core.Bool.{Bool, true, false}
+use mathlib.Core.Logic.{⊎-elim}
+use mathlib.Core.List.{List}
+use Prim.Native.Nat.{ℕ, _+_, _*_, _≤_, _<_, max}
+use native.Mathlib.Omega.{arith}
+use lib.Dec.{eqb, ltb}
+use lib.IntN.{ℤ}
+use lib.ListN.{length}
+use borrow.Author.Tests.{eq-eqb, ne-eqb}
+use Rattle.laws.proofs.Deciding.{eq-or-ne}
+use Rattle.sheet.specs.declared.Point.{Point}
+use Rattle.sheet.specs.Points.{inRange}
+use Rattle.sheet.specs.Rank.{rank}
+use Rattle.sheet.proofs.Ranks.{rank-below, rank-same}
+use Rattle.steps.specs.declared.Side.{Side}
+use Rattle.steps.specs.declared.Side.the-variants.{Rising, Falling}
+use Rattle.steps.specs.Rows.{Both, on, with, Branch, Row, Chain, inRow, closing, Record, Room}
+use Rattle.steps.specs.Plain.{put, newRow, withBranch, finishedBranch, freeRow, plainTable, plainJournal}
+use Rattle.steps.proofs.Alike.{AlikeBranch, AlikeRow, SmallChain, SmallRecord, Match}
+use Rattle.rows.specs.Layout as rows
+use Rattle.rows.specs.Layout.{pointPlaces, lookRow, openedIn, movedIn, finishedIn, freedIn}
+use Rattle.rows.proofs.Writing.{OnlyRow, other-row, opened-only, moved-only, finished-only, freed-only, opened-here, moved-here, finished-here, freed-here}
+use Rattle.journal.specs.Layout as journal
+use Rattle.journal.specs.Layout.{readRecord, writtenIn}
+use Rattle.journal.proofs.Writing.{Short, ShortChain, length-written, written-here, written-elsewhere}
+
+-- a point and its rank
+pub record Ranked (p : Point) (q : ℕ) : Type 0 where
+  pub inside : inRange p ≡ true
+  pub is-rank : rank p ≡ q
+
+-- a slice of n rows holds a table in its first k rows
+pub record HoldsRows (n k : ℕ) (s : List ℤ) (t : ℕ → Row ℕ) : Type 0 where
+  pub long : 8 * n ≤ length s
+  pub inside : k ≤ n
+  pub row : (r : ℕ) → r < k → AlikeRow Ranked (lookRow s r) (t r)
+
+-- a slice holds the first k records, and has room for m
+pub record HoldsRecords (m k : ℕ) (s : List ℤ) (j : ℕ → Record) : Type 0 where
+  pub long : 4 * m ≤ length s
+  pub entry : (i : ℕ) → i < k → readRecord s i ≡ j i
+
+new-alike : (level : ℕ) {p : Point} {q : ℕ} → Ranked p q → AlikeRow Ranked (newRow level p) (newRow level q)
+new-alike level {p} {q} h = record { used = refl; level = refl; branch = λ s. by s }
+  where
+    by : (s : Side) → AlikeBranch Ranked (on s (newRow level p .branch)) (on s (newRow level q .branch))
+    by Rising = record { tip = h; length = refl; finished = refl }
+    by Falling = record { tip = h; length = refl; finished = refl }
+
+-- one branch changed alike
+branch-alike : {row : Row Point} {row′ : Row ℕ} → AlikeRow Ranked row row′ → (s : Side) {b : Branch Point} {b′ : Branch ℕ} → AlikeBranch Ranked b b′ → AlikeRow Ranked (withBranch row s b) (withBranch row′ s b′)
+branch-alike {row} {row′} a s {b} {b′} h = record { used = a .used; level = a .level; branch = λ u. by s u }
+  where
+    by : (v u : Side) → AlikeBranch Ranked (on u (with v b (row .branch))) (on u (with v b′ (row′ .branch)))
+    by Rising Rising = h
+    by Rising Falling = a .branch Falling
+    by Falling Rising = a .branch Rising
+    by Falling Falling = h
+
+-- one row changed on both sides, and so many rows held after it
+one-row : {n k k′ : ℕ} {s : List ℤ} {t : ℕ → Row ℕ} → HoldsRows n k s t → (r : ℕ) → k′ ≤ n → ((q : ℕ) → (q ≡ r → ⊥) → q < k′ → q < k) → {u : List ℤ} → OnlyRow s u r → (row : Row ℕ) → AlikeRow Ranked (lookRow u r) row → HoldsRows n k′ u (put t r row)
+one-row H r m w {u} o row a =
+    record {
+      long = omega (arith, H .long, o .kept);
+      inside = m;
+      row = λ q h. ⊎-elim (λ e. rw (eq-eqb q r e, e) a) (λ d. rw (ne-eqb q r d, other-row o q d) (H .row q (w q d h))) (eq-or-ne q r);
+    }
+
+opened-holds : {n k : ℕ} {s : List ℤ} {t : ℕ → Row ℕ} → HoldsRows n k s t → (r level : ℕ) → r ≤ k → r < n → {p : Point} {q : ℕ} → Ranked p q → HoldsRows n (max k (r + 1)) (openedIn s r level p) (put t r (newRow level q))
+opened-holds {n} {k} {s} H r level l m {p} h =
+    one-row H r (omega (arith, H .inside)) (λ q d u. omega (arith, d, u, l)) (opened-only s r level p) _ (rw (opened-here s r (omega (arith, H .long)) level p) (new-alike level h))
+
+module _ {n k : ℕ} {s : List ℤ} {t : ℕ → Row ℕ} (H : HoldsRows n k s t) (r : ℕ) (l : r < k) where
+  moved-holds : (side : Side) {p : Point} {q : ℕ} (m : ℕ) → Ranked p q → HoldsRows n k (movedIn s r side p m) (put t r (withBranch (t r) side (record { tip = q; length = m; finished = false })))
+  moved-holds side {p} m h = one-row H r (H .inside) (λ q d u. u) (moved-only s r side p m) _ (rw (moved-here s r (omega (arith, H .long, H .inside)) p m side) (branch-alike (H .row r l) side (record { tip = h; length = refl; finished = refl })))
+
+  finished-holds : (side : Side) → HoldsRows n k (finishedIn s r side) (put t r (withBranch (t r) side (finishedBranch (on side (t r .branch)))))
+  finished-holds side =
+      let b = H .row r l .branch side in
+      one-row H r (H .inside) (λ q d u. u) (finished-only s r side) _ (rw (finished-here s r (omega (arith, H .long, H .inside)) side) (branch-alike (H .row r l) side (record { tip = b .tip; length = b .length; finished = refl })))
+
+  freed-holds : HoldsRows n k (freedIn s r) (put t r (freeRow (t r)))
+  freed-holds =
+      let a = H .row r l in
+      one-row H r (H .inside) (λ q d u. u) (freed-only s r) _ (rw (freed-here s r (omega (arith, H .long, H .inside))) (record { used = refl; level = a .level; branch = a .branch }))
+
+short-chain : (c : Chain) {most : ℕ} → most < 2147483648 → SmallChain most c → ShortChain c
+short-chain (inRow r) l h = omega arith
+short-chain closing l h = tt
+
+written-holds : {m k : ℕ} {s : List ℤ} {j : ℕ → Record} {entry : Record} {most : ℕ} → most < 2147483648 → HoldsRecords m k s j → k < m → SmallRecord most entry → HoldsRecords m (k + 1) (writtenIn s k entry) (put j k entry)
+written-holds {m} {k} {s} {j} {entry} lm H l h =
+    record {
+      long = omega (arith, H .long, length-written s k entry);
+      entry = λ i u. ⊎-elim
+          (λ e. rw (eq-eqb i k e, e) (written-here s k entry (omega (arith, H .long)) (record { level = omega (arith, h .level); name = omega (arith, h .name); chain = short-chain (entry .chain) lm (h .chain) })))
+          (λ d. rw (ne-eqb i k d, written-elsewhere s k entry i d) (H .entry i (omega (arith, d))))
+          (eq-or-ne i k);
+    }
+
+-- the two rooms, with as many rows and records
+abbrev pub sliceRoom : ℕ → ℕ → Room Point (List ℤ) (List ℤ)
+sliceRoom n m = record { places = pointPlaces; table = rows.slices; journal = journal.slices; rows = n; records = m }
+
+abbrev pub plainRoom : ℕ → ℕ → Room ℕ (ℕ → Row ℕ) (ℕ → Record)
+plainRoom n m = record { places = record { same = eqb; below = ltb; apart = λ p. false }; table = plainTable; journal = plainJournal; rows = n; records = m }
+
+pub matched : (n m most : ℕ) → m ≤ most → most < 2147483648 → Match (sliceRoom n m) (plainRoom n m) Ranked (HoldsRows n) (HoldsRecords m) most
+unfolding pointPlaces rows.slices journal.slices plainTable plainJournal
+matched n m most l u =
+    record {
+      same = λ h k. rank-same _ _ (h .inside) (k .inside) ∙ λ i. eqb (h .is-rank i) (k .is-rank i);
+      below = λ h k. rank-below _ _ (h .inside) (k .inside) ∙ λ i. ltb (h .is-rank i) (k .is-rank i);
+      apart = λ h. refl;
+      look = λ H r v. H .row r v;
+      opened = λ H h r level l v. opened-holds H r level l v h;
+      moved = λ H h r side k v. moved-holds H r v side k h;
+      finished = λ H r side v. finished-holds H r v side;
+      freed = λ H r v. freed-holds H r v;
+      written = λ H v h. written-holds u H v h;
+      rows = refl;
+      records = refl;
+      names = l;
+    }

@@ -1,0 +1,60 @@
+use mathlib.Core.Path.{_≡_, refl, sym, ap, _∙_}
+use native.Mathlib.Omega.{arith}
+use denote.Ref.{now}
+use Rattle.sheet.specs.Edges.{edgesIn}
+use Rattle.sheet.specs.Answers.{checked}
+use Rattle.checks.proofs.Passed.{passed}
+use Rattle.numbering.specs.Outcome.{lent, callOf, outcome, afterChecks}
+use Rattle.numbering.proofs.Leaving.{when-refused}
+use borrow.Author.Needs.{needs}
+use Rattle.numbering.proofs.number.Statement.{statement}
+use Rattle.numbering.proofs.number.Tie as tie
+
+check-requires : tie.Need-check-requires
+check-requires c κs = search needs
+
+enum-known-checked : tie.Need-enum-known-checked
+enum-known-checked c = search needs
+
+enum-told : tie.Need-enum-told
+enum-told c = search needs
+
+number-checked-requires : tie.Need-number-checked-requires
+unfolding edgesIn
+number-checked-requires c κs =
+    let p = passed (callOf (lent (now (c .before .before .before .before .before .before .before .before .before .args .edges)) (now (c .before .before .before .before .before .before .before .before .before .args .polygons)) (now (c .before .before .before .before .before .before .before .before .before .args .sequences)) (now (c .before .before .before .before .before .before .before .before .before .args .journal)) (now (c .before .before .before .before .before .before .before .before .before .args .rows)))) (sym (c .before .before .before .before .before .before .check .ensures) ∙ c .before .before .before .before .enum-told .given .1) in
+    (p .few, p .journal)
+
+returns : tie.Need-returns
+returns c = when-refused (lent (now (c .before .before .before .before .before .before .args .edges)) (now (c .before .before .before .before .before .before .args .polygons)) (now (c .before .before .before .before .before .before .args .sequences)) (now (c .before .before .before .before .before .before .args .journal)) (now (c .before .before .before .before .before .before .args .rows))) _ (sym (c .before .before .before .check .ensures) ∙ c .before .checked .given .1)
+
+same-length : tie.Need-same-length
+same-length c = search needs
+
+same-length-2 : tie.Need-same-length-2
+same-length-2 c = search needs
+
+same-length-3 : tie.Need-same-length-3
+same-length-3 c = search needs
+
+same-length-4 : tie.Need-same-length-4
+same-length-4 c = search needs
+
+returns-2 : tie.Need-returns-2
+unfolding outcome
+returns-2 c = c .before .before .before .before .before .before .number-checked .ensures ∙ ap (afterChecks _) (sym (sym (c .before .before .before .before .before .before .before .before .before .before .before .before .before .check .ensures) ∙ c .before .before .before .before .before .before .before .before .before .before .before .enum-told .given .1))
+
+pub number-spec : {M : Type 1} → statement M
+number-spec =
+    tie.close
+    (tie.spec
+    check-requires
+    enum-known-checked
+    enum-told
+    number-checked-requires
+    returns
+    same-length
+    same-length-2
+    same-length-3
+    same-length-4
+    returns-2)

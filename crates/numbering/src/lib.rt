@@ -1,0 +1,81 @@
+// The numbering: checks, sweep up, sweep down, answer sheet, on the five slices that a caller lends.
+use sheet::Answer;
+use sheet::Check;
+use sheet::Edge;
+use sheet::Refusal;
+ghost use mathlib.Core.Path.{_≡_};
+ghost use Prim.Native.Nat.{_*_, _/_, _≤_};
+ghost use lib.ListN.{length};
+ghost use Rattle.sheet.specs.declared.Check.the-variants.{Passed};
+ghost use Rattle.numbering.specs.Outcome.{lent, left, sweeps, afterChecks, outcome};
+
+// How many numbers of the journal an edge needs.
+const JOURNAL_NUMBERS: usize = 8;
+
+// Gives every edge its polygon number and its place round the polygon, or says why not.
+// Takes every list and every size of the lent slices. Accepted: both lists filled, the records in the journal followed by zeros, the rows all zeros.
+pub fn number(
+    edges: &[i32],
+    polygons: &mut [u32],
+    sequences: &mut [u32],
+    journal: &mut [i32],
+    rows: &mut [i32],
+) -> Answer
+    ensures { λ r. ⌜ left r (now (polygons .exit)) (now (sequences .exit)) (now (journal .exit)) (now (rows .exit)) ≡ outcome (lent (now (edges .entry)) (now (polygons .entry)) (now (sequences .entry)) (now (journal .entry)) (now (rows .entry))) ⌝ }
+{
+    let checked = checks::check(edges, polygons.len(), sequences.len(), journal.len());
+    match checked {
+        Check::Refused(refusal) => Answer::Refused(refusal),
+        Check::Passed => number_checked(edges, polygons, sequences, journal, rows),
+    }
+}
+
+// A list that passed its checks: the sweeps work in the journal's first numbers, and the rest of it is set to zero.
+fn number_checked(
+    edges: &[i32],
+    polygons: &mut [u32],
+    sequences: &mut [u32],
+    journal: &mut [i32],
+    rows: &mut [i32],
+) -> Answer
+    requires { ⌜ (length (now edges) / 4 ≤ 4096) × (8 * (length (now edges) / 4) ≤ length (now journal)) ⌝ }
+    ensures { λ r. ⌜ left r (now (polygons .exit)) (now (sequences .exit)) (now (journal .exit)) (now (rows .exit)) ≡ afterChecks (lent (now (edges .entry)) (now (polygons .entry)) (now (sequences .entry)) (now (journal .entry)) (now (rows .entry))) Passed ⌝ }
+{
+    let n = edges.len() / Edge::NUMBERS;
+    let used = JOURNAL_NUMBERS * n;
+    let answer = sweep_both(edges, polygons, sequences, &mut journal[..used], rows);
+    journal::zero_from(journal, 2 * n);
+    answer
+}
+
+// The two sweeps, and what they leave. An end that is not done gives up the row table and the journal.
+fn sweep_both(
+    edges: &[i32],
+    polygons: &mut [u32],
+    sequences: &mut [u32],
+    journal: &mut [i32],
+    rows: &mut [i32],
+) -> Answer
+    requires { ⌜ (length (now edges) / 4 ≤ 4096) × (length (now journal) ≡ 8 * (length (now edges) / 4)) ⌝ }
+    ensures { λ r. ⌜ left r (now (polygons .exit)) (now (sequences .exit)) (now (journal .exit)) (now (rows .exit)) ≡ sweeps (lent (now (edges .entry)) (now (polygons .entry)) (now (sequences .entry)) (now (journal .entry)) (now (rows .entry))) ⌝ }
+{
+    let n = edges.len() / Edge::NUMBERS;
+    let swept = sweep::up::sweep_up(edges, n, journal, rows);
+    let edge = swept.edge;
+    let progress = swept.progress;
+    if !progress.is_done() {
+        journal::zero_from(journal, 0);
+        rows::clear(rows);
+        return Answer::Refused(Refusal::NoRow(edge as u32));
+    }
+    let records = progress.records;
+    let peak = progress.peak;
+    let count = sweep::down::sweep_down(journal, records, rows, polygons, sequences);
+    journal::zero_from(journal, records);
+    rows::clear(rows);
+    Answer::Accepted {
+        polygons: count as u32,
+        peak: peak as u32,
+        records: records as u32,
+    }
+}

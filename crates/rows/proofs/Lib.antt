@@ -1,0 +1,8 @@
+pub mod Signs
+pub mod Tips
+pub mod Searching
+pub mod Zeros
+pub mod Looking
+pub mod Sets
+pub mod Writing
+pub mod Representing

@@ -1,0 +1,95 @@
+-- The two searches stop at the peak or at the last row of the slice, whichever comes first. Past the slice every row looks free, so no tip is found
+-- there, and the first row past it is the lowest free one where all before it are in use.
+use mathlib.Core.Path.{_≡_, refl, ap}
+use mathlib.Core.Bool.{Bool, true, false, not}
+use mathlib.Core.Logic.{⊎-elim}
+use mathlib.Core.List.{List}
+use Prim.Native.Nat.{ℕ, _+_, _*_, _/_, _≤_, _<_, min}
+use native.Mathlib.Omega.{arith}
+use lib.Dec.{ltb}
+use lib.IntN.{ℤ, pos, negsuc}
+use lib.ListN.{length, getD}
+use lib.Signed.{leZ, ltZ, mag}
+use mir.Syntax.{w32}
+use mir.Val.{toZ, ofZ}
+use borrow.Author.Tests.{lt-ltb, le-ltb, le-leb, lt-leb, ltb-true, leb-true, leb-false}
+use Rattle.laws.specs.Counting.{first}
+use Rattle.laws.proofs.Deciding.{lt-or-le, not-both, both-true}
+use Rattle.laws.proofs.First.{first-is, first-holds}
+use Rattle.sheet.specs.declared.Point.{Point}
+use Rattle.sheet.proofs.Signed.{read-back}
+use Rattle.steps.specs.declared.Side.{Side}
+use Rattle.steps.specs.declared.Found.the-variants.{At, Nothing}
+use Rattle.steps.specs.SweepUp.{pickFound, foundBelow, hasTip}
+use Rattle.rows.specs.Layout.{pointPlaces, HasRow, lookRow}
+use Rattle.rows.proofs.Tips.{not-not}
+
+-- a search that stops at m, past which no number below n passes
+module _ (p : ℕ → Bool) (n m : ℕ) (l : m ≤ n) where
+  pub found : (r : ℕ) → r < m → p r ≡ true → ((k : ℕ) → k < r → p k ≡ false) → At r ≡ foundBelow p n
+  unfolding foundBelow
+  found r h t least = rw (← first-is p n r (omega arith) (λ _. t) least, lt-ltb r n (omega arith))
+
+  pub nothing : ((k : ℕ) → k < m → p k ≡ false) → ((k : ℕ) → m ≤ k → k < n → p k ≡ false) → Nothing ≡ foundBelow p n
+  unfolding foundBelow
+  nothing below past = rw (← first-is p n n (omega arith) (λ h. absurd (omega arith)) least, le-ltb n n (omega arith))
+    where
+      least : (k : ℕ) → k < n → p k ≡ false
+      least k h = ⊎-elim (λ a. below k a) (λ a. past k a h) (lt-or-le k m)
+
+-- what is found is below n and passes
+pub found-is : (p : ℕ → Bool) (n r : ℕ) → foundBelow p n ≡ At r → (r < n) × (p r ≡ true)
+unfolding foundBelow
+found-is p n r e = by (ltb (first p n) n) refl e
+  where
+    by : (t : Bool) → ltb (first p n) n ≡ t → pickFound t (first p n) ≡ At r → (r < n) × (p r ≡ true)
+    by true h q =
+        let l : first p n < n = ltb-true _ _ h in
+        let i : first p n ≡ r = cc in
+        (rw i at l, rw i at (first-holds p n l))
+    by false h q = let z : _≡_ {A = ℕ} 0 1 = cc in absurd (omega arith)
+
+module _ (s : List ℤ) where
+  past-free : (r : ℕ) → length s < 8 * r + 8 → lookRow s r .used ≡ false
+  unfolding lookRow
+  past-free r h = rw (lt-leb (8 * r + 8) (length s) h)
+
+  has-row : (r : ℕ) → lookRow s r .used ≡ true → HasRow s r
+  has-row r e = ⊎-elim (λ h. absurd (not-both e (past-free r h))) (λ h. h) (lt-or-le (length s) (8 * r + 8))
+
+  module _ (level : ℕ) (side : Side) (tip : Point) where
+    tip-in-use : (r : ℕ) → hasTip pointPlaces level side tip (lookRow s r) ≡ true → lookRow s r .used ≡ true
+    unfolding hasTip
+    tip-in-use r e = both-true _ _ e .0
+
+    -- a row that is found is there
+    pub found-there : (peak r : ℕ) → foundBelow (λ k. hasTip pointPlaces level side tip (lookRow s k)) peak ≡ At r → HasRow s r
+    found-there peak r e = has-row r (tip-in-use r (found-is (λ k. hasTip pointPlaces level side tip (lookRow s k)) peak r e .1))
+
+    pub past-no-tip : (r : ℕ) → length s < 8 * r + 8 → hasTip pointPlaces level side tip (lookRow s r) ≡ false
+    unfolding hasTip
+    past-no-tip r h = rw (past-free r h)
+
+  in-use : (z : ℤ) → mag z < 2147483648 → (t : Bool) → leZ (toZ w32 (ofZ w32 z)) (pos 0) ≡ t → ltZ (pos 0) z ≡ not t
+  in-use z f t h = sign z t (rw (read-back z f) at h)
+    where
+      sign : (z : ℤ) (t : Bool) → leZ z (pos 0) ≡ t → ltZ (pos 0) z ≡ not t
+      sign (pos n) true h = le-ltb 0 n (leb-true n 0 h)
+      sign (pos n) false h = lt-ltb 0 n (leb-false n 0 h)
+      sign (negsuc n) true h = refl
+      sign (negsuc n) false h = absurd (not-both refl h)
+
+  -- the first number decides of a row that is there
+  pub row-free : (r : ℕ) → HasRow s r → mag (getD s (8 * r) (pos 0)) < 2147483648 → (t : Bool) →
+      leZ (toZ w32 (ofZ w32 (getD s (8 * r) (pos 0)))) (pos 0) ≡ t → not (lookRow s r .used) ≡ t
+  unfolding lookRow
+  row-free r has f t h = rw (le-leb (8 * r + 8) (length s) has, in-use (getD s (8 * r) (pos 0)) f t h) (not-not t)
+
+  -- a search that stops at m, which is the peak or past the slice
+  module _ (peak m : ℕ) (stop : m ≡ min peak (length s / 8)) where
+    pub free-found : (r : ℕ) → r < m → not (lookRow s r .used) ≡ true → ((k : ℕ) → k < r → not (lookRow s k .used) ≡ false) →
+        r ≡ first (λ k. not (lookRow s k .used)) peak
+    free-found r l t least = first-is (λ k. not (lookRow s k .used)) peak r (omega arith) (λ _. t) least
+
+    pub all-in-use : ((k : ℕ) → k < m → not (lookRow s k .used) ≡ false) → m ≡ first (λ k. not (lookRow s k .used)) peak
+    all-in-use least = first-is (λ k. not (lookRow s k .used)) peak m (omega arith) (λ h. ap not (past-free m (omega arith))) least

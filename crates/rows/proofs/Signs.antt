@@ -1,0 +1,136 @@
+-- A branch's length and a row's first number as the code has them: bits of 32, read back, changed and stored. None of the changes leaves the 32 bits.
+use mathlib.Core.Path.{_≡_, refl, sym, ap, _∙_}
+use mathlib.Core.Bool.{Bool, true, false, not}
+use Prim.Native.Nat.{ℕ, zero, suc, _+_, _-_, _≤_, _<_}
+use native.Mathlib.Omega.{arith}
+use lib.Dec.{T}
+use lib.IntN.{ℤ, pos, negsuc, _-ℤ_, natAbs}
+use lib.Signed.{ltZ, nonNeg, mag}
+use mir.Syntax.{w32}
+use mir.Val.{Fits, SFits, toZ, ofZ}
+use mir.ValLaws.{toZ-ofZ}
+use borrow.Author.Tests.{lt-ltb, le-ltb, ltb-false}
+use Rattle.laws.proofs.Deciding.{not-both}
+use Rattle.sheet.proofs.Signed.{read-back}
+use Rattle.rows.specs.Layout.{freedNumber}
+
+-- a number of 31 bits is itself as a signed one
+pub plain-read : (n : ℕ) → n < 2147483648 → toZ w32 n ≡ pos n
+plain-read n h = read-back (pos n) h
+
+-- what a test against 0 says
+pub below-zero : (z : ℤ) → ltZ z (pos 0) ≡ not (nonNeg z)
+below-zero (pos n) = le-ltb n 0 (omega arith)
+below-zero (negsuc n) = refl
+
+-- -1 - z
+abbrev complement : ℤ → ℤ
+complement (pos n) = negsuc n
+complement (negsuc n) = pos n
+
+minus-one-minus : (z : ℤ) → negsuc 0 -ℤ z ≡ complement z
+minus-one-minus (pos zero) = refl
+minus-one-minus (pos (suc n)) = let e : suc (0 + n) ≡ suc n = omega arith in ap negsuc e
+minus-one-minus (negsuc n) =
+    let e : suc n - 1 ≡ n = omega arith in
+    simp (le-ltb (suc n) 1 (omega arith), e)
+
+mag-complement : (z : ℤ) → mag (complement z) ≡ mag z
+mag-complement (pos n) = refl
+mag-complement (negsuc n) = refl
+
+finished-as : (z : ℤ) → nonNeg z ≡ false → z ≡ negsuc (mag z)
+finished-as (pos n) h = absurd (not-both refl h)
+finished-as (negsuc n) h = refl
+
+unfinished-as : (z : ℤ) → nonNeg z ≡ true → z ≡ pos (mag z)
+unfinished-as (pos n) h = refl
+unfinished-as (negsuc n) h = absurd (not-both h refl)
+
+complement-of : (z : ℤ) → nonNeg z ≡ true → complement z ≡ negsuc (mag z)
+complement-of (pos n) h = refl
+complement-of (negsuc n) h = absurd (not-both h refl)
+
+complement-back : (z : ℤ) → nonNeg z ≡ false → complement z ≡ pos (mag z)
+complement-back (pos n) h = absurd (not-both refl h)
+complement-back (negsuc n) h = refl
+
+module _ (z : ℤ) (f : mag z < 2147483648) where
+  tested : (t : Bool) → ltZ (toZ w32 (ofZ w32 z)) (pos 0) ≡ not t → nonNeg z ≡ t
+  tested t h = opposite (nonNeg z) t (sym (below-zero z) ∙ (rw (read-back z f) at h))
+    where
+      opposite : (a b : Bool) → not a ≡ not b → a ≡ b
+      opposite true true e = refl
+      opposite false false e = refl
+      opposite true false e = sym e
+      opposite false true e = sym e
+
+  less-is : negsuc 0 -ℤ toZ w32 (ofZ w32 z) ≡ complement z
+  less-is = rw (read-back z f) (minus-one-minus z)
+
+  pub less-fits : SFits w32 (negsuc 0 -ℤ toZ w32 (ofZ w32 z))
+  less-fits = rw less-is (record { sfits = rw mag-complement f })
+
+  less-back : toZ w32 (ofZ w32 (negsuc 0 -ℤ toZ w32 (ofZ w32 z))) ≡ complement z
+  less-back = toZ-ofZ w32 _ less-fits ∙ less-is
+
+  module _ (h : ltZ (toZ w32 (ofZ w32 z)) (pos 0) ≡ true) where
+    pub finished-stays : toZ w32 (ofZ w32 z) ≡ negsuc (mag z)
+    finished-stays = read-back z f ∙ finished-as z (tested false h)
+
+    finished-length : toZ w32 (ofZ w32 (negsuc 0 -ℤ toZ w32 (ofZ w32 z))) ≡ pos (mag z)
+    finished-length = less-back ∙ complement-back z (tested false h)
+
+    pub finished-casts : T (nonNeg (toZ w32 (ofZ w32 (negsuc 0 -ℤ toZ w32 (ofZ w32 z))))) × Fits w32 (natAbs (toZ w32 (ofZ w32 (negsuc 0 -ℤ toZ w32 (ofZ w32 z)))))
+    finished-casts = rw finished-length (tt, record { fits = omega (arith, f) })
+
+    pub finished-value : (natAbs (toZ w32 (ofZ w32 (negsuc 0 -ℤ toZ w32 (ofZ w32 z)))) ≡ mag z) × (natAbs (toZ w32 (ofZ w32 (negsuc 0 -ℤ toZ w32 (ofZ w32 z)))) < 2147483648)
+    finished-value = rw finished-length (refl, f)
+
+  module _ (h : ltZ (toZ w32 (ofZ w32 z)) (pos 0) ≡ false) where
+    pub now-finished : toZ w32 (ofZ w32 (negsuc 0 -ℤ toZ w32 (ofZ w32 z))) ≡ negsuc (mag z)
+    now-finished = less-back ∙ complement-of z (tested true h)
+
+    length-read : toZ w32 (ofZ w32 z) ≡ pos (mag z)
+    length-read = read-back z f ∙ unfinished-as z (tested true h)
+
+    pub length-casts : T (nonNeg (toZ w32 (ofZ w32 z))) × Fits w32 (natAbs (toZ w32 (ofZ w32 z)))
+    length-casts = rw length-read (tt, record { fits = omega (arith, f) })
+
+    pub length-value : (natAbs (toZ w32 (ofZ w32 z)) ≡ mag z) × (natAbs (toZ w32 (ofZ w32 z)) < 2147483648)
+    length-value = rw length-read (refl, f)
+
+-- a row in use is freed by a minus, any other is free already
+in-use-freed : (z : ℤ) → ltZ (pos 0) z ≡ true → pos 0 -ℤ z ≡ freedNumber z
+unfolding freedNumber
+in-use-freed (pos zero) h = absurd (not-both h refl)
+in-use-freed (pos (suc n)) h =
+    let e : suc n - 1 ≡ n = omega arith in
+    simp (lt-ltb 0 (suc n) (omega arith), e)
+in-use-freed (negsuc n) h = absurd (not-both h refl)
+
+free-freed : (z : ℤ) → ltZ (pos 0) z ≡ false → z ≡ freedNumber z
+unfolding freedNumber
+free-freed (pos zero) h = refl
+free-freed (pos (suc n)) h = let l : suc n ≤ 0 = ltb-false _ _ h in absurd (omega arith)
+free-freed (negsuc n) h = refl
+
+pub freed-small : (z : ℤ) → mag z < 2147483648 → mag (freedNumber z) < 2147483648
+unfolding freedNumber
+freed-small (pos zero) h = h
+freed-small (pos (suc n)) h = omega arith
+freed-small (negsuc n) h = h
+
+module _ (z : ℤ) (f : mag z < 2147483648) where
+  module _ (h : ltZ (pos 0) (toZ w32 (ofZ w32 z)) ≡ true) where
+    minus-is : pos 0 -ℤ toZ w32 (ofZ w32 z) ≡ freedNumber z
+    minus-is = rw (read-back z f) (in-use-freed z (rw (read-back z f) at h))
+
+    pub minus-fits : SFits w32 (pos 0 -ℤ toZ w32 (ofZ w32 z))
+    minus-fits = rw minus-is (record { sfits = freed-small z f })
+
+    pub now-free : toZ w32 (ofZ w32 (pos 0 -ℤ toZ w32 (ofZ w32 z))) ≡ freedNumber z
+    now-free = toZ-ofZ w32 _ minus-fits ∙ minus-is
+
+  pub free-stays : ltZ (pos 0) (toZ w32 (ofZ w32 z)) ≡ false → toZ w32 (ofZ w32 z) ≡ freedNumber z
+  free-stays h = read-back z f ∙ free-freed z (rw (read-back z f) at h)

@@ -1,0 +1,88 @@
+-- The test of a tip, number by number: a row that the slice has passes `hasTip` where its first number is the level and 1, its branch's length number is
+-- not below 0, and its tip is at the place. The code leaves at the first of these that fails, so each way out decides the whole test.
+use mathlib.Core.Path.{_≡_, refl, sym, ap, _∙_}
+use mathlib.Core.Bool.{Bool, true, false, not, _&&_}
+use mathlib.Core.Logic.{⊎-elim}
+use mathlib.Core.List.{List}
+use Prim.Native.Nat.{ℕ, zero, suc, _+_, _-_, _*_, _<_}
+use native.Mathlib.Omega.{arith}
+use lib.Dec.{eqb}
+use lib.IntN.{ℤ, pos, negsuc, _+ℤ_}
+use lib.ListN.{length, getD}
+use lib.Signed.{ltZ, nonNeg, mag}
+use mir.Syntax.{w32}
+use mir.Val.{SFits, toZ, ofZ}
+use borrow.Author.Tests.{lt-ltb, le-leb, eq-eqb, ne-eqb}
+use Rattle.laws.proofs.Deciding.{eq-or-ne}
+use Rattle.sheet.specs.declared.Point.{Point}
+use Rattle.sheet.specs.Points.{sameZ, isSame}
+use Rattle.sheet.proofs.Signed.{read-back, bits-same, sameZ-yes, sameZ-no}
+use Rattle.steps.specs.declared.Side.{Side}
+use Rattle.steps.specs.declared.Side.the-variants.{Rising, Falling}
+use Rattle.steps.specs.SweepUp.{hasTip}
+use Rattle.rows.specs.Layout.{pointPlaces, HasRow, branchAt, levelIn, lookBranch, lookRow}
+use Rattle.rows.proofs.Signs.{plain-read, below-zero}
+
+pub and-false : (a : Bool) → (a && false) ≡ false
+and-false true = refl
+and-false false = refl
+
+pub not-not : (a : Bool) → not (not a) ≡ a
+not-not true = refl
+not-not false = refl
+
+and-assoc : (a b c : Bool) → (a && (b && c)) ≡ ((a && b) && c)
+and-assoc true b c = refl
+and-assoc false b c = refl
+
+-- in use and of the level: the first number is the level and 1
+level-number : (z : ℤ) (level : ℕ) → (ltZ (pos 0) z && eqb (levelIn z) level) ≡ sameZ z (pos (level + 1))
+unfolding levelIn sameZ
+level-number (pos zero) level = sym (ne-eqb 0 (level + 1) (λ e. omega arith))
+level-number (pos (suc n)) level = rw (lt-ltb 0 (suc n) (omega arith)) (⊎-elim
+    (λ e. eq-eqb (suc n - 1) level e ∙ sym (eq-eqb (suc n) (level + 1) (omega arith)))
+    (λ d. ne-eqb (suc n - 1) level d ∙ sym (ne-eqb (suc n) (level + 1) (λ e. d (omega arith))))
+    (eq-or-ne (suc n - 1) level))
+level-number (negsuc n) level = refl
+
+-- the mark of a level, as the code computes it
+module _ (level : ℕ) (h : level < 2147483647) where
+  pub mark-is : toZ w32 level +ℤ pos 1 ≡ pos (level + 1)
+  mark-is = ap (λ (z : ℤ). z +ℤ pos 1) (plain-read level (omega arith))
+
+  pub mark-fits : SFits w32 (toZ w32 level +ℤ pos 1)
+  mark-fits = rw mark-is (record { sfits = omega arith })
+
+module _ (s : List ℤ) (r level : ℕ) (side : Side) (tip : Point) (has : HasRow s r) where
+  byNumbers : ℕ → Bool
+  byNumbers b =
+      sameZ (getD s (8 * r) (pos 0)) (pos (level + 1)) && (nonNeg (getD s (b + 2) (pos 0)) && isSame (record { x = getD s b (pos 0); y = getD s (b + 1) (pos 0) }) tip)
+
+  tip-test : (x : Side) → hasTip pointPlaces level x tip (lookRow s r) ≡ byNumbers (branchAt x r)
+  unfolding hasTip pointPlaces lookRow lookBranch byNumbers
+  tip-test Rising = rw (le-leb (8 * r + 8) (length s) has) (simp (not-not, and-assoc, level-number))
+  tip-test Falling = rw (le-leb (8 * r + 8) (length s) has) (simp (not-not, and-assoc, level-number))
+
+  pub other-level : level < 2147483647 → (ofZ w32 (getD s (8 * r) (pos 0)) ≡ ofZ w32 (toZ w32 level +ℤ pos 1) → ⊥) →
+      false ≡ hasTip pointPlaces level side tip (lookRow s r)
+  unfolding byNumbers
+  other-level hl d = rw (tip-test side, sameZ-no (getD s (8 * r) (pos 0)) (pos (level + 1)) (λ e. d (ap (ofZ w32) (e ∙ sym (mark-is level hl)))))
+
+  module _ (b : ℕ) (at : b ≡ branchAt side r) (f : mag (getD s (b + 2) (pos 0)) < 2147483648) where
+    test-at : hasTip pointPlaces level side tip (lookRow s r) ≡ byNumbers b
+    test-at = tip-test side ∙ ap byNumbers (sym at)
+
+    sign : (t : Bool) → ltZ (toZ w32 (ofZ w32 (getD s (b + 2) (pos 0)))) (pos 0) ≡ t → nonNeg (getD s (b + 2) (pos 0)) ≡ not t
+    sign t h = sym (not-not _) ∙ ap not (sym (below-zero (getD s (b + 2) (pos 0))) ∙ (rw (read-back (getD s (b + 2) (pos 0)) f) at h))
+
+    pub finished-there : ltZ (toZ w32 (ofZ w32 (getD s (b + 2) (pos 0)))) (pos 0) ≡ true → false ≡ hasTip pointPlaces level side tip (lookRow s r)
+    unfolding byNumbers
+    finished-there h = rw (test-at, sign true h) (sym (simp and-false))
+
+    pub tip-decides : level < 2147483647 → mag (getD s (8 * r) (pos 0)) < 2147483648 →
+        ofZ w32 (getD s (8 * r) (pos 0)) ≡ ofZ w32 (toZ w32 level +ℤ pos 1) → ltZ (toZ w32 (ofZ w32 (getD s (b + 2) (pos 0)))) (pos 0) ≡ false →
+        isSame (record { x = getD s b (pos 0); y = getD s (b + 1) (pos 0) }) tip ≡ hasTip pointPlaces level side tip (lookRow s r)
+    unfolding byNumbers
+    tip-decides hl f0 e0 h =
+        let l = sameZ-yes (getD s (8 * r) (pos 0)) (pos (level + 1)) (bits-same _ (pos (level + 1)) f0 (omega arith) (e0 ∙ ap (ofZ w32) (mark-is level hl))) in
+        rw (test-at, l, sign false h)

@@ -1,0 +1,65 @@
+-- `rows::find` meets its contract. The loop's invariant: no row passed has such a tip. Past the slice no row has one.
+use Prim.Native.Nat.{ℕ, _≤_, _<_, _-_}
+use native.Mathlib.Omega.{arith}
+use mathlib.Core.Path.{_≡_, _∙_, sym}
+use mathlib.Core.Bool.{false}
+use borrow.Author.Needs.{needs}
+use borrow.Author.Count.{below-more}
+use Rattle.steps.specs.SweepUp.{hasTip}
+use Rattle.rows.specs.Layout.{pointPlaces, lookRow}
+use Rattle.rows.proofs.Searching.{found, nothing, past-no-tip}
+use Rattle.rows.proofs.find.Statement.{statement}
+use Rattle.rows.proofs.find.Tie as tie
+
+abbrev Inv-loop : tie.InvT-loop
+Inv-loop rows peak level side tip n r₀ r = (r ≤ n) × ((k : ℕ) → k < r → hasTip pointPlaces level side tip (lookRow rows k) ≡ false)
+
+abbrev μ-loop : tie.MeasureT-loop
+μ-loop rows peak level side tip n r₀ r = n - r
+
+lower-of-requires : tie.Need-lower-of-requires Inv-loop μ-loop
+lower-of-requires c κs = search needs
+
+loop-holds : tie.Need-loop-holds Inv-loop μ-loop
+loop-holds c = (search needs, λ k h. absurd (omega arith))
+
+has-tip-requires : tie.Need-has-tip-requires Inv-loop μ-loop
+has-tip-requires c κs = search needs
+
+returns : tie.Need-returns Inv-loop μ-loop
+returns c =
+    let a = c .before .before .before .before .before .args in
+    let l = c .before .before .before .loop in
+    found (λ k. hasTip pointPlaces (a .level) (a .side) (a .tip) (lookRow (a .rows .now) k)) (a .peak) (c .before .before .before .before .lower-of .result) (omega arith)
+    (l .r) (c .before .before .loop-test .taken) (sym (c .before .has-tip .ensures) ∙ c .if1 .taken) (l .inv .1)
+
+add-r : tie.Need-add-r Inv-loop μ-loop
+add-r c = search needs
+
+loop-less : tie.Need-loop-less Inv-loop μ-loop
+loop-less c = search needs
+
+loop-again : tie.Need-loop-again Inv-loop μ-loop
+loop-again c = (search needs, below-more _ _ (c .before .before .before .loop .inv .1) (sym (c .before .has-tip .ensures) ∙ c .if1 .left))
+
+returns-2 : tie.Need-returns-2 Inv-loop μ-loop
+returns-2 c =
+    let a = c .before .before .before .args in
+    nothing (λ k. hasTip pointPlaces (a .level) (a .side) (a .tip) (lookRow (a .rows .now) k)) (a .peak) (c .before .before .lower-of .result) (omega arith)
+    (λ k h. c .before .loop .inv .1 k (omega arith))
+    (λ k h l. past-no-tip (a .rows .now) (a .level) (a .side) (a .tip) k (omega arith))
+
+pub find-spec : {M : Type 1} → statement M
+find-spec =
+    tie.close
+    (tie.spec
+    Inv-loop
+    μ-loop
+    lower-of-requires
+    loop-holds
+    has-tip-requires
+    returns
+    add-r
+    loop-less
+    loop-again
+    returns-2)

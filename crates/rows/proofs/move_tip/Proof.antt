@@ -1,0 +1,70 @@
+-- `rows::move_tip` meets its contract. Three stores, one behind the other, are the run of stores of `movedIn`.
+use Rattle.rows.specs.Layout.{movedIn}
+use Rattle.sheet.proofs.Signed.{read-back}
+use lib.ListN.{length-set}
+use native.Mathlib.Omega.{arith}
+use Prim.Native.Nat.{suc, _+_}
+use mathlib.Core.Path.{_≡_}
+use Rattle.rows.proofs.Signs.{plain-read}
+use borrow.Author.Needs.{needs}
+use Rattle.rows.proofs.move_tip.Statement.{statement}
+use Rattle.rows.proofs.move_tip.Tie as tie
+
+branch-at-requires : tie.Need-branch-at-requires
+branch-at-requires c κs = search needs
+
+mul-x : tie.Need-mul-x
+mul-x c = search needs
+
+slice-set-from-x : tie.Need-slice-set-from-x
+slice-set-from-x c = search needs
+
+add-y : tie.Need-add-y
+add-y c = search needs
+
+mul-y : tie.Need-mul-y
+mul-y c = search needs
+
+slice-set-from-y : tie.Need-slice-set-from-y
+slice-set-from-y c = simp length-set (omega arith)
+
+cast-rows : tie.Need-cast-rows
+cast-rows c = search needs
+
+add-t11 : tie.Need-add-t11
+add-t11 c = search needs
+
+mul-t13 : tie.Need-mul-t13
+mul-t13 c = search needs
+
+slice-set-from-rows : tie.Need-slice-set-from-rows
+slice-set-from-rows c = simp length-set (omega arith)
+
+same-length : tie.Need-same-length
+same-length c = search needs
+
+returns : tie.Need-returns
+unfolding movedIn
+returns c =
+    let a = c .before .before .before .before .args in
+    let b = c .before .before .branch-at .result in
+    let one : b + 1 ≡ suc b = omega arith in
+    let two : b + 2 ≡ suc (suc b) = omega arith in
+    rw (← c .before .before .branch-at .ensures .0, one, two, read-back (a .tip .x) (c .before .struct-told .given .0 .1), read-back (a .tip .y) (c .struct-told2 .given .1 .0 .1), plain-read (a .length) (c .before .before .before .before .pre .1))
+
+pub move-tip-spec : {M : Type 1} → statement M
+move-tip-spec =
+    tie.close
+    (tie.spec
+    branch-at-requires
+    mul-x
+    slice-set-from-x
+    add-y
+    mul-y
+    slice-set-from-y
+    cast-rows
+    add-t11
+    mul-t13
+    slice-set-from-rows
+    same-length
+    returns)

@@ -1,0 +1,79 @@
+-- How a table of rows lies in a slice of signed numbers, row r in the eight from 8 r on. Number 0 is the level and 1 of a row in use, and 0 or below
+-- in a free one, which so keeps the level that it had. Numbers 1, 2, 3 are x, y and length of the rising branch, numbers 4, 5, 6 those of the falling
+-- one, number 7 is not looked at. A length below 0 is that of a finished branch: negsuc n, which is -1 - n, for the length n.
+use Prim.Native.Nat.{ℕ, zero, suc, _+_, _-_, _*_, _/_, _≤_, _<_}
+use mathlib.Core.Path.{_≡_}
+use mathlib.Core.Bool.{false, not, _&&_}
+use mathlib.Core.List.{List, [], _∷_}
+use lib.Dec.{leb}
+use lib.IntN.{ℤ, pos, negsuc}
+use lib.ListN.{length, getD, set}
+use lib.Seq.{sets}
+use lib.Signed.{ltZ, nonNeg, mag}
+use Rattle.sheet.specs.declared.Point.{Point}
+use Rattle.sheet.specs.Points.{isSame, isBelow}
+use Rattle.steps.specs.declared.Side.{Side}
+use Rattle.steps.specs.declared.Side.the-variants.{Rising, Falling}
+use Rattle.steps.specs.Rows.{Branch, Row, Places, Table}
+
+-- points compare as points do, and none is apart
+unfoldable pub pointPlaces : Places Point
+pointPlaces = record { same = isSame; below = isBelow; apart = λ p. false }
+
+-- how many rows a slice has, and that it has row r: a part of a row at the end is no row
+abbrev pub rowsIn : List ℤ → ℕ
+rowsIn s = length s / 8
+
+abbrev pub HasRow : List ℤ → ℕ → Type 0
+HasRow s r = 8 * r + 8 ≤ length s
+
+-- where a branch's three numbers start
+abbrev pub branchAt : Side → ℕ → ℕ
+branchAt Rising r = 8 * r + 1
+branchAt Falling r = 8 * r + 4
+
+-- the level that a row's number 0 tells
+unfoldable pub levelIn : ℤ → ℕ
+levelIn (pos n) = n - 1
+levelIn (negsuc n) = n
+
+-- a row's number 0 where the row is freed
+unfoldable pub freedNumber : ℤ → ℤ
+freedNumber (pos zero) = pos zero
+freedNumber (pos (suc n)) = negsuc n
+freedNumber (negsuc n) = negsuc n
+
+unfoldable pub lookBranch : List ℤ → ℕ → Branch Point
+lookBranch s b =
+    record {
+      tip = record { x = getD s b (pos 0); y = getD s (b + 1) (pos 0) };
+      length = mag (getD s (b + 2) (pos 0));
+      finished = not (nonNeg (getD s (b + 2) (pos 0)));
+    }
+
+unfoldable pub lookRow : List ℤ → ℕ → Row Point
+lookRow s r =
+    record {
+      used = leb (8 * r + 8) (length s) && ltZ (pos 0) (getD s (8 * r) (pos 0));
+      level = levelIn (getD s (8 * r) (pos 0));
+      branch = record { rising = lookBranch s (branchAt Rising r); falling = lookBranch s (branchAt Falling r) };
+    }
+
+unfoldable pub openedIn : List ℤ → ℕ → ℕ → Point → List ℤ
+openedIn s r level p = sets s (8 * r) (pos (level + 1) ∷ p .x ∷ p .y ∷ pos 0 ∷ p .x ∷ p .y ∷ pos 0 ∷ pos 0 ∷ [])
+
+unfoldable pub movedIn : List ℤ → ℕ → Side → Point → ℕ → List ℤ
+movedIn s r side p n = sets s (branchAt side r) (p .x ∷ p .y ∷ pos n ∷ [])
+
+unfoldable pub finishedIn : List ℤ → ℕ → Side → List ℤ
+finishedIn s r side = set s (branchAt side r + 2) (negsuc (mag (getD s (branchAt side r + 2) (pos 0))))
+
+unfoldable pub freedIn : List ℤ → ℕ → List ℤ
+freedIn s r = set s (8 * r) (freedNumber (getD s (8 * r) (pos 0)))
+
+unfoldable pub slices : Table Point (List ℤ)
+slices = record { look = lookRow; opened = openedIn; moved = movedIn; finished = finishedIn; freed = freedIn }
+
+-- the slice holds the table t in its first n rows
+abbrev pub Represents : List ℤ → ℕ → (ℕ → Row Point) → Type 0
+Represents s n t = (r : ℕ) → r < n → lookRow s r ≡ t r

@@ -1,0 +1,83 @@
+-- What every sweep keeps within, in any room: the records stay within the journal's, the peak within the records and the rows, the edge at which a
+-- sweep up ends within the list, and a sweep down counts no more polygons than records.
+use mathlib.Core.Path.{_≡_, refl, sym, ap, _∙_}
+use Prim.Native.Nat.{ℕ, zero, suc, _+_, _≤_, _<_, max}
+use native.Mathlib.Omega.{arith}
+use Rattle.steps.specs.declared.Side.{Side}
+use Rattle.steps.specs.declared.End.{End}
+use Rattle.steps.specs.declared.End.the-variants.{Done, NoFreeRow, Overrun}
+use Rattle.steps.specs.Rows.{Chain, inRow, closing, Record, Row, Edge, Room, Journal, on}
+use Rattle.steps.specs.SweepUp.{State, Sweep, sweepUp, nextEdge, treat, levels, start}
+use Rattle.steps.specs.SweepDown.{Numbers, Tables, Reading, give, shifted, readRecord, sweepDown}
+use Rattle.steps.proofs.Alike.{AlikeRow, AlikeEdge, Match, Alike, sweep-alike}
+
+-- a room matches itself
+row-self : {P : Type 0} (row : Row P) → AlikeRow (λ p q. p ≡ q) row row
+row-self row = record { used = refl; level = refl; branch = λ s. record { tip = refl; length = refl; finished = refl } }
+
+self : {P T J : Type 0} (room : Room P T J) → Match room room (λ p q. p ≡ q) (λ k t t′. t ≡ t′) (λ k j j′. j ≡ j′) (room .records)
+self room =
+    record {
+      same = λ h k. λ i. room .places .same (h i) (k i);
+      below = λ h k. λ i. room .places .below (h i) (k i);
+      apart = λ h. λ i. room .places .apart (h i);
+      look = λ {k} {t} h r l. rw (← h) (row-self (room .table .look t r));
+      opened = λ h e r level l m. λ i. room .table .opened (h i) r level (e i);
+      moved = λ h e r s n l. λ i. room .table .moved (h i) r s (e i) n;
+      finished = λ h r s l. λ i. room .table .finished (h i) r s;
+      freed = λ h r l. λ i. room .table .freed (h i) r;
+      written = λ {j} {j′} {k} {entry} h l m. λ i. room .journal .written (h i) k entry;
+      rows = refl;
+      records = refl;
+      names = omega arith;
+    }
+
+pub record Within {P T J : Type 0} (room : Room P T J) (s : State T J) : Type 0 where
+  pub kept : s .records ≤ room .records
+  pub named : s .peak ≤ room .rows
+  pub little : s .end ≡ Done → s .peak ≤ s .records
+
+-- a list whose names the journal has room for
+pub sweep-within : {P T J : Type 0} (room : Room P T J) (list : ℕ → Edge P) (n : ℕ) → ((i : ℕ) → i < n → list i .name ≤ room .records) → (t : T) (j : J) → Within room (sweepUp room list (start t j) n .state)
+sweep-within room list n small t j =
+    let A : Alike (self room) 0 0 (start t j) (start t j) = record {
+      rows = refl;
+      journal = refl;
+      records = refl;
+      peak = refl;
+      end = refl;
+      named = omega arith;
+      kept = omega arith;
+      little = λ e. omega arith;
+      since = omega arith;
+    } in
+    let B = sweep-alike (self room) list list n (λ i l. record { name = refl; small = small i l; tail = refl; head = refl; length = refl }) A .state in
+    record { kept = B .kept; named = B .named; little = λ e. omega (arith, B .little e) }
+
+pub edge-within : {P T J : Type 0} (room : Room P T J) (list : ℕ → Edge P) (s : State T J) (n : ℕ) → sweepUp room list s n .edge ≤ n
+unfolding sweepUp
+edge-within room list s zero = omega arith
+edge-within {P} {T} {J} room list s (suc n) = by (sweepUp room list s n .state .end) (edge-within room list s n)
+  where
+    w : Sweep T J
+    w = sweepUp room list s n
+
+    by : (d : End) → w .edge ≤ n → nextEdge d w (treat room levels 0 (w .state) (list n)) n .edge ≤ suc n
+    by Done h = omega arith
+    by NoFreeRow h = omega arith
+    by Overrun h = omega arith
+
+-- one record counts one polygon or none
+record-counts : {T A : Type 0} (tables : Tables T A) (d : Reading T A) (entry : Record) (c : Chain) → readRecord tables d entry c .polygons ≤ d .polygons + 1
+record-counts tables d entry (inRow r) = by (entry .level)
+  where
+    by : (level : ℕ) → give tables d level (entry .name) (shifted tables (tables .look (d .table) r) (entry .offset)) .polygons ≤ d .polygons + 1
+    by zero = omega arith
+    by (suc level) = omega arith
+record-counts tables d entry closing = omega arith
+
+pub polygons-within : {T A J : Type 0} (tables : Tables T A) (journal : Journal J) (j : J) (n : ℕ) (d : Reading T A) → sweepDown tables journal j n d .polygons ≤ d .polygons + n
+unfolding sweepDown
+polygons-within tables journal j zero d = omega arith
+polygons-within tables journal j (suc n) d =
+    omega (arith, polygons-within tables journal j n (readRecord tables d (journal .read j n) (journal .read j n .chain)), record-counts tables d (journal .read j n) (journal .read j n .chain))

@@ -1,0 +1,123 @@
+-- `sweep::up::sweep_up` meets its contract. The loop's invariant: the slices, the progress and the last edge are the steps' sweep of the edges so far, and it is not ended.
+use borrow.Author.Needs.{needs}
+use native.Mathlib.Omega.{arith}
+use Prim.Native.Nat.{_≤_, _-_, _+_}
+use mathlib.Core.Path.{_≡_, refl, sym, _∙_}
+use mathlib.Core.Bool.{true}
+use lib.ListN.{length}
+use borrow.Author.Tests.{not-true, not-false}
+use Rattle.steps.specs.SweepUp.{sweepUp, start}
+use Rattle.sweep.specs.Slices.{roomOf, edgesOf, swept, isDone}
+use Rattle.sweep.proofs.Sweeping.{next-edge, sweep-stays, records-there}
+use Rattle.sweep.specs.declared.Swept.{Swept}
+use Rattle.sweep.proofs.up.sweep_up.Statement.{statement}
+use Rattle.sweep.proofs.up.sweep_up.Tie as tie
+
+abbrev Inv-loop : tie.InvT-loop
+Inv-loop edges n journal₀ rows₀ s₀ edge₀ i₀ journal rows s edge i =
+    (i ≤ n)
+    × (length rows ≡ length rows₀)
+    × (length journal ≡ length journal₀)
+    × (swept rows journal (record { progress = s; edge = edge }) ≡ sweepUp (roomOf rows₀ journal₀) (edgesOf edges) (start rows₀ journal₀) i)
+    × (isDone (s .end) ≡ true)
+
+abbrev μ-loop : tie.MeasureT-loop
+μ-loop edges n journal₀ rows₀ s₀ edge₀ i₀ journal rows s edge i = n - i
+
+loop-holds : tie.Need-loop-holds Inv-loop μ-loop
+unfolding sweepUp
+loop-holds c = (search needs, search needs, search needs, refl, refl)
+
+list-edge-requires : tie.Need-list-edge-requires Inv-loop μ-loop
+list-edge-requires c κs = search needs
+
+treat-requires : tie.Need-treat-requires Inv-loop μ-loop
+treat-requires c κs = search needs
+
+is-done-requires : tie.Need-is-done-requires Inv-loop μ-loop
+is-done-requires c κs = search needs
+
+same-length : tie.Need-same-length Inv-loop μ-loop
+same-length c = search needs
+
+same-length-2 : tie.Need-same-length-2 Inv-loop μ-loop
+same-length-2 c = search needs
+
+returns : tie.Need-returns Inv-loop μ-loop
+returns c =
+    let c₁ = c .before in
+    let c₄ = c₁ .before .before .before in
+    let c₅ = c₄ .before in
+    let c₈ = c₅ .before .before .before in
+    let c₉ = c₈ .before in
+    let c₁₀ = c₉ .before in
+    let g = c₁₀ .args in
+    let l = c₉ .loop in
+    let t = c₄ .treat in
+    let next =
+    next-edge (g .rows .now) (g .journal .now) (edgesOf (g .edges .now)) (l .i) {w = record { progress = l .s; edge = l .edge }} (l .inv .3) (l .inv .4) (l .inv .1) (l .inv .2)
+    (c₅ .list-edge .ensures .0) {p = t .result} (t .ensures) in
+    let w : Swept = record { progress = t .result; edge = l .i } in
+    let e =
+    sweep-stays (g .rows .now) (g .journal .now) (edgesOf (g .edges .now)) (g .n) (l .i + 1) {w = w} (omega (arith, c₈ .loop-test .taken)) next
+    (sym (c₁ .is-done .ensures) ∙ not-true _ (c .if1 .taken)) in
+    (e, records-there (g .rows .now) (g .journal .now) (edgesOf (g .edges .now)) (g .n) w e)
+
+add-i : tie.Need-add-i Inv-loop μ-loop
+add-i c = search needs
+
+loop-less : tie.Need-loop-less Inv-loop μ-loop
+loop-less c = search needs
+
+loop-again : tie.Need-loop-again Inv-loop μ-loop
+loop-again c =
+    let c₁ = c .before in
+    let c₄ = c₁ .before .before .before in
+    let c₅ = c₄ .before in
+    let c₈ = c₅ .before .before .before in
+    let c₉ = c₈ .before in
+    let c₁₀ = c₉ .before in
+    let g = c₁₀ .args in
+    let l = c₉ .loop in
+    let t = c₄ .treat in
+    let next =
+    next-edge (g .rows .now) (g .journal .now) (edgesOf (g .edges .now)) (l .i) {w = record { progress = l .s; edge = l .edge }} (l .inv .3) (l .inv .4) (l .inv .1) (l .inv .2)
+    (c₅ .list-edge .ensures .0) {p = t .result} (t .ensures) in
+    (omega (arith, c₈ .loop-test .taken), omega (arith, l .inv .1, t .kept), omega (arith, l .inv .2, t .kept), next, sym (c₁ .is-done .ensures) ∙ not-false _ (c .if1 .left))
+
+same-length-3 : tie.Need-same-length-3 Inv-loop μ-loop
+same-length-3 c = search needs
+
+same-length-4 : tie.Need-same-length-4 Inv-loop μ-loop
+same-length-4 c = search needs
+
+returns-2 : tie.Need-returns-2 Inv-loop μ-loop
+returns-2 c =
+    let c₁ = c .before in
+    let c₂ = c₁ .before in
+    let g = c₂ .args in
+    let l = c₁ .loop in
+    let w : Swept = record { progress = l .s; edge = l .edge } in
+    let z : l .i ≡ g .n = omega arith in
+    let e = rw z at (l .inv .3) in
+    (e, records-there (g .rows .now) (g .journal .now) (edgesOf (g .edges .now)) (g .n) w e)
+
+pub sweep-up-spec : {M : Type 1} → statement M
+sweep-up-spec =
+    tie.close
+    (tie.spec
+    Inv-loop
+    μ-loop
+    loop-holds
+    list-edge-requires
+    treat-requires
+    is-done-requires
+    same-length
+    same-length-2
+    returns
+    add-i
+    loop-less
+    loop-again
+    same-length-3
+    same-length-4
+    returns-2)

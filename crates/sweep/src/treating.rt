@@ -1,0 +1,209 @@
+// An edge of any level treated: step 1 finds or opens its chain's row, steps 2 and 3 attach it, step 4 finishes branches that meet and passes up each
+// row that is finished on both sides. A row passed up is an edge of the next level, so treating calls itself one level up, with one level less left.
+use crate::NamedEdge;
+use crate::Progress;
+use sheet::Point;
+use steps::End;
+use steps::Found;
+use steps::Side;
+ghost use mathlib.Core.Path.{_≡_};
+ghost use mathlib.Core.List.{List};
+ghost use Prim.Native.Nat.{_+_, _-_, _<_};
+ghost use lib.IntN.{ℤ};
+ghost use Rattle.steps.specs.SweepUp as up;
+ghost use Rattle.rows.specs.Layout.{HasRow, lookRow};
+ghost use Rattle.sweep.specs.Slices.{roomOf, state, edgeOf};
+
+// The largest length that a row holds.
+const MOST_LENGTH: u64 = 2_147_483_647;
+
+// An offset with its sign: a minus on the falling side.
+fn signed(side: Side, n: u32) -> i32
+    requires { ⌜ n < 2147483648 ⌝ }
+    ensures { λ z. ⌜ z ≡ up.signed side n ⌝ }
+{
+    match side {
+        Side::Rising => n as i32,
+        Side::Falling => 0 - n as i32,
+    }
+}
+
+// A closing edge: only a record.
+fn close(journal: &mut [i32], s: Progress, level: u32, e: NamedEdge) -> Progress
+    requires { ⌜ e .falling < 2147483648 ⌝ }
+    ensures { λ p. ⌜ ((a : List ℤ) → state a (now (journal .exit)) p ≡ up.close (roomOf a (now (journal .entry))) (state a (now (journal .entry)) s) level (edgeOf e)) ⌝ }
+{
+    let records = s.records;
+    if journal::records_in(journal) <= records {
+        return s.ended(End::Overrun);
+    }
+    let name = e.name;
+    let falling = e.falling;
+    journal::write_closing(journal, records, level, name, falling as i32);
+    s.recorded()
+}
+
+// The lowest free row opened at a place. As the rows below it are in use, its name tells the peak.
+fn open_lowest(rows: &mut [i32], s: Progress, r: usize, level: u32, tip: Point) -> Progress
+    requires { ⌜ HasRow (now rows) r × (level < 2147483647) × ((b : List ℤ) → r ≡ up.lowestFree (roomOf (now rows) b) (state (now rows) b s)) ⌝ }
+    ensures { λ p. ⌜ ((b : List ℤ) → state (now (rows .exit)) b p ≡ up.open-row (roomOf (now (rows .entry)) b) (state (now (rows .entry)) b s) r level tip) ⌝ }
+{
+    rows::open_row(rows, r, level, tip);
+    s.in_use(r + 1)
+}
+
+// Steps 2 and 3: the record, and the tip moved to the edge's top.
+fn attach(
+    rows: &mut [i32],
+    journal: &mut [i32],
+    s: Progress,
+    level: u32,
+    side: Side,
+    e: NamedEdge,
+    r: usize,
+) -> Progress
+    requires { ⌜ HasRow (now rows) r ⌝ }
+    ensures { λ p. ⌜ state (now (rows .exit)) (now (journal .exit)) p ≡ up.attach (roomOf (now (rows .entry)) (now (journal .entry))) (state (now (rows .entry)) (now (journal .entry)) s) level side (edgeOf e) r ⌝ }
+{
+    let records = s.records;
+    if journal::records_in(journal) <= records {
+        return s.ended(End::Overrun);
+    }
+    let before = rows::length_of(rows, r, side);
+    let longer = (before as u64) + (e.falling as u64) + (e.rising as u64);
+    if MOST_LENGTH < longer {
+        return s.ended(End::Overrun);
+    }
+    let offset = signed(side, before + e.length(side.other()));
+    let name = e.name;
+    journal::write_attached(journal, records, level, name, r, offset);
+    rows::move_tip(rows, r, side, e.bottom(side.other()), longer as u32);
+    s.recorded()
+}
+
+// A row with both branches finished, as an edge of the next level.
+fn as_edge(rows: &[i32], r: usize) -> NamedEdge
+    requires { ⌜ HasRow (now rows) r ⌝ }
+    ensures { λ e. ⌜ (edgeOf e ≡ up.asEdge r (lookRow (now (rows .entry)) r)) × (e .falling < 2147483648) ⌝ }
+{
+    let tail = rows::tip_of(rows, r, Side::Falling);
+    let head = rows::tip_of(rows, r, Side::Rising);
+    let rising = rows::length_of(rows, r, Side::Rising);
+    let falling = rows::length_of(rows, r, Side::Falling);
+    NamedEdge {
+        name: r,
+        tail,
+        head,
+        rising,
+        falling,
+    }
+}
+
+// An edge of a level with so many levels left above it. Equal ends close an outline; any other edge goes into the row found, or a free one.
+pub fn treat(
+    rows: &mut [i32],
+    journal: &mut [i32],
+    s: Progress,
+    level: u32,
+    left: u32,
+    e: NamedEdge,
+) -> Progress
+    requires { ⌜ (level + left ≡ 12) × (e .falling < 2147483648) ⌝ }
+    ensures { λ p. ⌜ state (now (rows .exit)) (now (journal .exit)) p ≡ up.treat (roomOf (now (rows .entry)) (now (journal .entry))) left level (state (now (rows .entry)) (now (journal .entry)) s) (edgeOf e) ⌝ }
+{
+    let tail = e.tail;
+    if tail.same(e.head) {
+        return close(journal, s, level, e);
+    }
+    if left == 0 {
+        return s.ended(End::Overrun);
+    }
+    let peak = s.peak;
+    let side = e.side();
+    let bottom = e.bottom(side);
+    let Found::At(r) = rows::find(rows, peak, level, side, bottom) else {
+        let free = rows::lowest_free(rows, peak);
+        if rows::rows_in(rows) <= free {
+            return s.ended(End::NoFreeRow);
+        }
+        let t = open_lowest(rows, s, free, level, bottom);
+        return on_row(rows, journal, t, level, left, side, e, free);
+    };
+    on_row(rows, journal, s, level, left, side, e, r)
+}
+
+// Steps 2 to 4 on a row.
+fn on_row(
+    rows: &mut [i32],
+    journal: &mut [i32],
+    s: Progress,
+    level: u32,
+    left: u32,
+    side: Side,
+    e: NamedEdge,
+    r: usize,
+) -> Progress
+    requires { ⌜ HasRow (now rows) r × (level + left ≡ 12) × (0 < left) ⌝ }
+    ensures { λ p. ⌜ state (now (rows .exit)) (now (journal .exit)) p ≡ up.onRow (roomOf (now (rows .entry)) (now (journal .entry))) (up.treat (roomOf (now (rows .entry)) (now (journal .entry))) (left - 1) (level + 1)) (state (now (rows .entry)) (now (journal .entry)) s) level side (edgeOf e) r ⌝ }
+{
+    let t = attach(rows, journal, s, level, side, e, r);
+    if !t.is_done() {
+        return t;
+    }
+    let other = side.other();
+    let top = e.bottom(other);
+    let peak = t.peak;
+    let Found::At(q) = rows::find(rows, peak, level, other, top) else {
+        return t;
+    };
+    rows::finish(rows, q, other);
+    rows::finish(rows, r, side);
+    pass_both(rows, journal, t, level, left, q, r)
+}
+
+// The row found, then this row; once where they are one.
+fn pass_both(
+    rows: &mut [i32],
+    journal: &mut [i32],
+    s: Progress,
+    level: u32,
+    left: u32,
+    q: usize,
+    r: usize,
+) -> Progress
+    requires { ⌜ HasRow (now rows) q × HasRow (now rows) r × (level + left ≡ 12) × (0 < left) ⌝ }
+    ensures { λ p. ⌜ state (now (rows .exit)) (now (journal .exit)) p ≡ up.passBoth (roomOf (now (rows .entry)) (now (journal .entry))) (up.treat (roomOf (now (rows .entry)) (now (journal .entry))) (left - 1) (level + 1)) (state (now (rows .entry)) (now (journal .entry)) s) q r ⌝ }
+{
+    let t = pass_up(rows, journal, s, level, left, q);
+    if q == r {
+        return t;
+    }
+    if !t.is_done() {
+        return t;
+    }
+    pass_up(rows, journal, t, level, left, r)
+}
+
+// A row with both branches finished passed up and then freed.
+fn pass_up(
+    rows: &mut [i32],
+    journal: &mut [i32],
+    s: Progress,
+    level: u32,
+    left: u32,
+    r: usize,
+) -> Progress
+    requires { ⌜ HasRow (now rows) r × (level + left ≡ 12) × (0 < left) ⌝ }
+    ensures { λ p. ⌜ state (now (rows .exit)) (now (journal .exit)) p ≡ up.passUp (roomOf (now (rows .entry)) (now (journal .entry))) (up.treat (roomOf (now (rows .entry)) (now (journal .entry))) (left - 1) (level + 1)) (state (now (rows .entry)) (now (journal .entry)) s) r ⌝ }
+{
+    if !rows::both_finished(rows, r) {
+        return s;
+    }
+    let e = as_edge(rows, r);
+    let t = treat(rows, journal, s, level + 1, left - 1, e);
+    if !t.is_done() {
+        return t;
+    }
+    rows::free_row(rows, r);
+    t
+}

@@ -1,0 +1,56 @@
+// The sweep up: the edges of a list treated in order at level 0.
+use crate::NamedEdge;
+use crate::Progress;
+use crate::Swept;
+use crate::treating;
+use sheet::Edge;
+use steps::End;
+ghost use mathlib.Core.Path.{_≡_};
+ghost use Prim.Native.Nat.{_+_, _*_, _≤_, _<_};
+ghost use lib.ListN.{length};
+ghost use Rattle.steps.specs.SweepUp.{sweepUp, start};
+ghost use Rattle.sweep.specs.Slices.{roomOf, edgeOf, edgesOf, swept};
+
+// The levels that an edge of the list has above it.
+const LEVELS: u32 = 12;
+
+// An edge of the list, named by its place: rising length 1, falling length 0.
+fn list_edge(edges: &[i32], i: usize) -> NamedEdge
+    requires { ⌜ 4 * i + 3 < length (now edges) ⌝ }
+    ensures { λ e. ⌜ (edgeOf e ≡ edgesOf (now (edges .entry)) i) × (e .falling ≡ 0) ⌝ }
+{
+    let edge = Edge::at(edges, i);
+    let tail = edge.tail;
+    let head = edge.head;
+    NamedEdge {
+        name: i,
+        tail,
+        head,
+        rising: 1,
+        falling: 0,
+    }
+}
+
+// The first n edges of the list, until one is not done.
+pub fn sweep_up(edges: &[i32], n: usize, journal: &mut [i32], rows: &mut [i32]) -> Swept
+    requires { ⌜ 4 * n ≤ length (now edges) ⌝ }
+    ensures { λ w. ⌜ swept (now (rows .exit)) (now (journal .exit)) w ≡ sweepUp (roomOf (now (rows .entry)) (now (journal .entry))) (edgesOf (now (edges .entry))) (start (now (rows .entry)) (now (journal .entry))) n ⌝ }
+    ensures { λ w. ⌜ 4 * w .progress .records ≤ length (now (journal .entry)) ⌝ }
+{
+    let mut s = Progress {
+        records: 0,
+        peak: 0,
+        end: End::Done,
+    };
+    let mut edge: usize = 0;
+    let mut i: usize = 0;
+    while i < n {
+        s = treating::treat(rows, journal, s, 0, LEVELS, list_edge(edges, i));
+        edge = i;
+        if !s.is_done() {
+            return Swept { progress: s, edge };
+        }
+        i += 1;
+    }
+    Swept { progress: s, edge }
+}

@@ -1,0 +1,92 @@
+-- `number` goes by what its parts found: no numeral, or one with at most seven digits, which stands inside the text and fits.
+use Rattle.text.proofs.Numerals.{no-number, number-few, number-stands, number-small, a-number}
+use borrow.Author.Tests.{not-true, not-false}
+use native.Mathlib.Omega.{arith}
+use mathlib.Core.Path.{sym, _∙_}
+use borrow.Author.Needs.{needs}
+use Rattle.text.proofs.Cursor.number.Statement.{statement}
+use Rattle.text.proofs.Cursor.number.Tie as tie
+
+minus-at-requires : tie.Need-minus-at-requires
+minus-at-requires c κs = search needs
+
+digits-at-requires : tie.Need-digits-at-requires
+digits-at-requires c κs = search needs
+
+digits-from-requires : tie.Need-digits-from-requires
+digits-from-requires c κs = search needs
+
+byte-at-requires : tie.Need-byte-at-requires
+byte-at-requires c κs = search needs
+
+is-numeral-requires : tie.Need-is-numeral-requires
+is-numeral-requires c κs = search needs
+
+returns : tie.Need-returns
+returns c =
+    no-number _ _
+    (c .before .before .before .before .before .minus-at .ensures)
+    (c .before .before .before .before .digits-at .ensures)
+    (c .before .before .before .digits-from .ensures)
+    (c .before .before .byte-at .ensures)
+    (sym (c .before .is-numeral .ensures) ∙ not-true _ (c .if1 .taken))
+
+value-at-requires : tie.Need-value-at-requires
+value-at-requires c κs =
+    number-few _ _
+    (c .before .before .before .before .before .minus-at .ensures)
+    (c .before .before .before .before .digits-at .ensures)
+    (c .before .before .before .digits-from .ensures)
+    (c .before .before .byte-at .ensures)
+    (sym (c .before .is-numeral .ensures) ∙ not-false _ (c .if1 .left))
+
+with-sign-requires : tie.Need-with-sign-requires
+with-sign-requires c κs =
+    omega (
+      arith,
+      number-small _ _
+          (c .before .before .before .before .before .before .minus-at .ensures)
+          (c .before .before .before .before .before .digits-at .ensures)
+          (c .before .before .before .before .digits-from .ensures)
+          (c .before .before .before .byte-at .ensures)
+          (sym (c .before .before .is-numeral .ensures) ∙ not-false _ (c .before .if1 .left))
+          (c .value-at .ensures),
+    )
+
+add-t12 : tie.Need-add-t12
+add-t12 c =
+    omega (
+      arith,
+      number-stands _ _
+          (c .before .before .before .before .before .before .before .minus-at .ensures)
+          (c .before .before .before .before .before .before .digits-at .ensures)
+          (c .before .before .before .before .before .digits-from .ensures)
+          (c .before .before .before .before .byte-at .ensures)
+          (sym (c .before .before .before .is-numeral .ensures) ∙ not-false _ (c .before .before .if1 .left)),
+    )
+
+returns-2 : tie.Need-returns-2
+returns-2 c =
+    a-number _ _
+    (c .before .before .before .before .before .before .before .minus-at .ensures)
+    (c .before .before .before .before .before .before .digits-at .ensures)
+    (c .before .before .before .before .before .digits-from .ensures)
+    (c .before .before .before .before .byte-at .ensures)
+    (sym (c .before .before .before .is-numeral .ensures) ∙ not-false _ (c .before .before .if1 .left))
+    (c .before .value-at .ensures)
+    (c .with-sign .ensures)
+
+pub number-spec : {M : Type 1} → statement M
+number-spec =
+    tie.close
+    (tie.spec
+    minus-at-requires
+    digits-at-requires
+    digits-from-requires
+    byte-at-requires
+    is-numeral-requires
+    returns
+    value-at-requires
+    with-sign-requires
+    add-t12
+    returns-2)

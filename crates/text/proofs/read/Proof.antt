@@ -1,0 +1,33 @@
+-- `read` tries the limits and then reads the lines: one law for each way out.
+use Rattle.text.proofs.Limits.{many-bytes, many-lines, lines-read}
+use borrow.Author.Needs.{needs}
+use Rattle.text.proofs.read.Statement.{statement}
+use Rattle.text.proofs.read.Tie as tie
+
+returns : tie.Need-returns
+returns c = many-bytes _ _ (c .if1 .taken)
+
+line-count-requires : tie.Need-line-count-requires
+line-count-requires c κs = search needs
+
+returns-2 : tie.Need-returns-2
+returns-2 c = many-lines _ (c .before .before .if1 .left) (c .before .line-count .ensures) _ (c .if2 .taken)
+
+read-lines-requires : tie.Need-read-lines-requires
+read-lines-requires c κs = search needs
+
+same-length : tie.Need-same-length
+same-length c = search needs
+
+returns-3 : tie.Need-returns-3
+returns-3 c =
+    lines-read _
+    (c .before .before .before .before .before .if1 .left)
+    (c .before .before .before .before .line-count .ensures)
+    (c .before .before .before .if2 .left)
+    (c .before .read-lines .ensures)
+
+pub read-spec : {M : Type 1} → statement M
+read-spec =
+    tie.close
+    (tie.spec returns line-count-requires returns-2 read-lines-requires same-length returns-3)

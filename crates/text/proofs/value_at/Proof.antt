@@ -1,0 +1,97 @@
+-- `value_at` is the value of the digits passed, at every step of the loop. They are digits and at most seven, so nothing wraps.
+use Rattle.text.proofs.Numerals.{value-more, value-small}
+use Rattle.text.specs.Numbers.{valueAt}
+use borrow.Author.Needs.{needs}
+use native.Mathlib.Omega.{arith}
+use Prim.Native.Nat.{_≤_, _-_, _+_}
+use mathlib.Core.Path.{_≡_, refl, ap, _∙_}
+use Rattle.text.proofs.value_at.Statement.{statement}
+use Rattle.text.proofs.value_at.Tie as tie
+
+abbrev Inv-loop : tie.InvT-loop
+Inv-loop text at digits value₀ k₀ value k = (k ≤ digits) × (value ≡ valueAt text at k)
+
+abbrev μ-loop : tie.MeasureT-loop
+μ-loop text at digits value₀ k₀ value k = digits - k
+
+loop-holds : tie.Need-loop-holds Inv-loop μ-loop
+unfolding valueAt
+loop-holds c = (search needs, refl)
+
+mul-value : tie.Need-mul-value Inv-loop μ-loop
+mul-value c =
+    omega (
+      arith,
+      value-small
+          (c .before .before .before .args .text .now)
+          (c .before .before .before .args .at)
+          (c .before .loop .k)
+          (search needs)
+          (search needs),
+      c .before .loop .inv .1,
+    )
+
+byte-at-requires : tie.Need-byte-at-requires Inv-loop μ-loop
+byte-at-requires c κs = search needs
+
+figure-requires : tie.Need-figure-requires Inv-loop μ-loop
+figure-requires c κs = search needs
+
+add-value : tie.Need-add-value Inv-loop μ-loop
+add-value c =
+    omega (
+      arith,
+      value-small
+          (c .before .before .before .before .before .args .text .now)
+          (c .before .before .before .before .before .args .at)
+          ((c .before .before .before .loop .k) + 1)
+          (search needs)
+          (search needs),
+      value-more
+          (c .before .before .before .before .before .args .text .now)
+          (c .before .before .before .before .before .args .at)
+          (c .before .before .before .loop .k),
+      c .before .before .before .loop .inv .1,
+      c .figure .ensures,
+      c .before .byte-at .ensures,
+    )
+
+add-k : tie.Need-add-k Inv-loop μ-loop
+add-k c = search needs
+
+loop-less : tie.Need-loop-less Inv-loop μ-loop
+loop-less c = search needs
+
+loop-again : tie.Need-loop-again Inv-loop μ-loop
+loop-again c = (
+  search needs,
+  omega (
+    arith,
+    value-more
+        (c .before .before .before .before .before .args .text .now)
+        (c .before .before .before .before .before .args .at)
+        (c .before .before .before .loop .k),
+    c .before .before .before .loop .inv .1,
+    c .figure .ensures,
+    c .before .byte-at .ensures,
+  ),
+)
+
+returns : tie.Need-returns Inv-loop μ-loop
+returns c = c .before .loop .inv .1 ∙ ap (valueAt _ _) (omega arith)
+
+pub value-at-spec : {M : Type 1} → statement M
+value-at-spec =
+    tie.close
+    (tie.spec
+    Inv-loop
+    μ-loop
+    loop-holds
+    mul-value
+    byte-at-requires
+    figure-requires
+    add-value
+    add-k
+    loop-less
+    loop-again
+    returns)

@@ -1,0 +1,7 @@
+pub mod Keys
+pub mod Places
+pub mod Marking
+pub mod Gaps
+pub mod Answering
+pub mod Accepting
+pub mod OneTurnList

@@ -1,0 +1,133 @@
+-- `turns::first_again` meets its contract. The loop's invariant is `Marking`.
+use borrow.Author.Needs.{needs}
+use native.Mathlib.Omega.{arith}
+use mathlib.Core.Path.{_≡_, ap, _∙_}
+use Prim.Native.Nat.{_-_, _<_}
+use lib.ListN.{length}
+use Rattle.sheet.specs.TurnList.{numbersOf}
+use Rattle.turns.specs.Keys.{placeFrom}
+use Rattle.turns.proofs.Places.{placeAt}
+use Rattle.turns.proofs.Marking.{Marking, marking-none, marking-room, marking-found, marking-more, marking-all, marking-ordered}
+use Rattle.turns.proofs.first_again.Statement.{statement}
+use Rattle.turns.proofs.first_again.Tie as tie
+
+abbrev Inv-loop : tie.InvT-loop
+Inv-loop polygons sequences keys order₀ n later₀ order later = Marking (numbersOf polygons sequences) keys order₀ order later
+
+abbrev μ-loop : tie.MeasureT-loop
+μ-loop polygons sequences keys order₀ n later₀ order later = n - later
+
+-- the place that was asked for is that of the edge's key
+here : (c : tie.After-place-from Inv-loop μ-loop) →
+    c .place-from .result ≡
+    placeAt
+    (numbersOf (c .before .before .before .before .before .before .before .before .before .before .args .polygons .now) (c .before .before .before .before .before .before .before .before .before .before .args .sequences .now))
+    (c .before .before .before .before .before .before .before .before .before .before .args .keys .now)
+    (c .before .before .before .before .before .loop .later)
+unfolding numbersOf
+here c = c .place-from .ensures ∙ ap (placeFrom _ _) (c .before .key .ensures)
+
+room : (c : tie.After-place-from Inv-loop μ-loop) → c .place-from .result < length (c .before .before .before .before .before .loop .order)
+unfolding numbersOf
+room c =
+    let keyed = c .before .before .before .before .before .before .before .before .before .before .pre .1 .0 in
+    marking-room keyed (c .before .before .before .before .before .loop .inv) (c .before .before .before .before .loop-test .taken) (here c)
+
+loop-holds : tie.Need-loop-holds Inv-loop μ-loop
+unfolding numbersOf
+loop-holds c = marking-none _ _ _ (c .before .before .before .before .pre .1 .1)
+
+mul-key : tie.Need-mul-key Inv-loop μ-loop
+mul-key c = search needs
+
+shared-slice-read-key : tie.Need-shared-slice-read-key Inv-loop μ-loop
+shared-slice-read-key c = search needs
+
+mul-key-2 : tie.Need-mul-key-2 Inv-loop μ-loop
+mul-key-2 c = search needs
+
+shared-slice-read-key-2 : tie.Need-shared-slice-read-key-2 Inv-loop μ-loop
+shared-slice-read-key-2 c = search needs
+
+key-requires : tie.Need-key-requires Inv-loop μ-loop
+key-requires c κs = search needs
+
+place-from-requires : tie.Need-place-from-requires Inv-loop μ-loop
+unfolding numbersOf
+place-from-requires c κs = c .before .before .before .before .before .before .before .before .before .pre .1 .0 .rising
+
+mul-earlier : tie.Need-mul-earlier Inv-loop μ-loop
+mul-earlier c = omega (arith, room c)
+
+slice-read-earlier : tie.Need-slice-read-earlier Inv-loop μ-loop
+slice-read-earlier c = room (c .before)
+
+cast-earlier : tie.Need-cast-earlier Inv-loop μ-loop
+cast-earlier c = record { fits = omega (arith, c .slice-known2 .given (c .before .place-from .result)) }
+
+same-length : tie.Need-same-length Inv-loop μ-loop
+same-length c = search needs
+
+returns : tie.Need-returns Inv-loop μ-loop
+unfolding numbersOf
+returns c =
+    let keyed = c .before .before .before .before .before .before .before .before .before .before .before .before .pre .1 .0 in
+    (marking-found keyed (c .before .before .before .before .before .before .before .loop .inv) (c .before .before .before .before .before .before .loop-test .taken) (here (c .before .before)) (c .if1 .taken), λ all. absurd (omega arith))
+
+cast-order : tie.Need-cast-order Inv-loop μ-loop
+cast-order c = search needs
+
+mul-order : tie.Need-mul-order Inv-loop μ-loop
+mul-order c = omega (arith, room (c .before .before))
+
+slice-write-order : tie.Need-slice-write-order Inv-loop μ-loop
+slice-write-order c = room (c .before .before)
+
+add-later : tie.Need-add-later Inv-loop μ-loop
+add-later c = search needs
+
+loop-less : tie.Need-loop-less Inv-loop μ-loop
+loop-less c = search needs
+
+loop-again : tie.Need-loop-again Inv-loop μ-loop
+unfolding numbersOf
+loop-again c =
+    let keyed = c .before .before .before .before .before .before .before .before .before .before .before .before .pre .1 .0 in
+    marking-more keyed (c .before .before .before .before .before .before .before .loop .inv) (c .before .before .before .before .before .before .loop-test .taken) (here (c .before .before)) (c .if1 .left)
+
+same-length-2 : tie.Need-same-length-2 Inv-loop μ-loop
+same-length-2 c = search needs
+
+returns-2 : tie.Need-returns-2 Inv-loop μ-loop
+unfolding numbersOf
+returns-2 c =
+    let keyed = c .before .before .before .before .before .before .pre .1 .0 in
+    let all = c .loop-test .left in
+    (marking-all keyed (c .before .loop .inv) all, λ _. marking-ordered keyed (c .before .loop .inv) all)
+
+pub first-again-spec : {M : Type 1} → statement M
+first-again-spec =
+    tie.close
+    (tie.spec
+    Inv-loop
+    μ-loop
+    loop-holds
+    mul-key
+    shared-slice-read-key
+    mul-key-2
+    shared-slice-read-key-2
+    key-requires
+    place-from-requires
+    mul-earlier
+    slice-read-earlier
+    cast-earlier
+    same-length
+    returns
+    cast-order
+    mul-order
+    slice-write-order
+    add-later
+    loop-less
+    loop-again
+    same-length-2
+    returns-2)

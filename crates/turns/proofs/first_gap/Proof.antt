@@ -1,0 +1,49 @@
+-- `turns::first_gap` meets its contract. The loop's invariant: 14 holds of no edge below e.
+use borrow.Author.Needs.{needs}
+use mathlib.Core.Path.{sym, _∙_}
+use Prim.Native.Nat.{_≤_, _-_}
+use Rattle.laws.proofs.Searching.{NoneBelow, none-yet, none-more, found-first, found-none}
+use Rattle.sheet.specs.TurnList.{numbersOf, gap}
+use Rattle.turns.proofs.first_gap.Statement.{statement}
+use Rattle.turns.proofs.first_gap.Tie as tie
+
+abbrev Inv-loop : tie.InvT-loop
+Inv-loop polygons sequences keys n e₀ e = (e ≤ n) × NoneBelow (gap (numbersOf polygons sequences)) e
+
+abbrev μ-loop : tie.MeasureT-loop
+μ-loop polygons sequences keys n e₀ e = n - e
+
+loop-holds : tie.Need-loop-holds Inv-loop μ-loop
+loop-holds c = (search needs, none-yet _)
+
+has-gap-requires : tie.Need-has-gap-requires Inv-loop μ-loop
+has-gap-requires c κs = search needs
+
+returns : tie.Need-returns Inv-loop μ-loop
+returns c = found-first _ (c .before .before .before .loop .inv .1) (search needs) (sym (c .before .has-gap .ensures) ∙ c .if1 .taken)
+
+add-e : tie.Need-add-e Inv-loop μ-loop
+add-e c = search needs
+
+loop-less : tie.Need-loop-less Inv-loop μ-loop
+loop-less c = search needs
+
+loop-again : tie.Need-loop-again Inv-loop μ-loop
+loop-again c = (search needs, none-more _ (c .before .before .before .loop .inv .1) (sym (c .before .has-gap .ensures) ∙ c .if1 .left))
+
+returns-2 : tie.Need-returns-2 Inv-loop μ-loop
+returns-2 c = found-none _ (c .before .loop .inv .1) (search needs)
+
+pub first-gap-spec : {M : Type 1} → statement M
+first-gap-spec =
+    tie.close
+    (tie.spec
+    Inv-loop
+    μ-loop
+    loop-holds
+    has-gap-requires
+    returns
+    add-e
+    loop-less
+    loop-again
+    returns-2)

@@ -1,0 +1,31 @@
+-- `turns::turn_list` meets its contract: 11 by its law, and the rest as `turn_numbers` has it.
+use borrow.Author.Needs.{needs}
+use mathlib.Core.Path.{refl, _∙_}
+use Rattle.turns.proofs.Answering.{turned-differing, turned-numbers, turned-sizes, turned-room}
+use Rattle.turns.proofs.turn_list.Statement.{statement}
+use Rattle.turns.proofs.turn_list.Tie as tie
+
+lengths-differ-requires : tie.Need-lengths-differ-requires
+lengths-differ-requires c κs = search needs
+
+returns : tie.Need-returns
+returns c = (turned-differing _ _ _ (c .before .lengths-differ .ensures) (c .if1 .taken), refl)
+
+turn-numbers-requires : tie.Need-turn-numbers-requires
+turn-numbers-requires c κs =
+    let told = c .before .before .lengths-differ .ensures in
+    let a = c .before .before .before .before .before .before .args in
+    (turned-sizes _ _ _ told (c .before .if1 .left), turned-room (a .polygons .now) (a .sequences .now) _ told (c .before .if1 .left))
+
+same-length : tie.Need-same-length
+same-length c = search needs
+
+returns-2 : tie.Need-returns-2
+returns-2 c =
+    let rest = c .before .before .turn-numbers .ensures in
+    (rest .0 ∙ turned-numbers _ _ _ (c .before .before .before .before .before .lengths-differ .ensures) (c .before .before .before .before .if1 .left), rest .1)
+
+pub turn-list-spec : {M : Type 1} → statement M
+turn-list-spec =
+    tie.close
+    (tie.spec lengths-differ-requires returns turn-numbers-requires same-length returns-2)

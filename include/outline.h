@@ -1,0 +1,133 @@
+/*
+ * outline.h: the outline engine for C and C++, x86-64.
+ *
+ * The engine takes the directed edges of a drawing in sweep order and gives
+ * each edge the number of the closed outline that it belongs to and its place
+ * round that outline. It is proved; it comes as libdesk.a, which
+ * `rt staticlib desk` writes to target/staticlib.
+ *
+ *     cc program.c -I include target/staticlib/libdesk.a
+ *
+ * Both functions work only in the memory that they are handed. They allocate
+ * nothing, keep nothing between calls, call nothing back, and may be called
+ * from several threads at once. A slice is a pointer and a length counted in
+ * numbers, not in bytes. Any length and any contents are allowed: what does not
+ * fit is refused. The pointers must not be NULL, even where the length is 0,
+ * and what is lent to be written must overlap nothing else that the call is
+ * handed.
+ */
+#ifndef OUTLINE_H
+#define OUTLINE_H
+
+#include <stddef.h>
+#include <stdint.h>
+
+#ifdef __cplusplus
+extern "C" {
+#endif
+
+/* How much of everything. */
+enum {
+    OUTLINE_NUMBERS_PER_EDGE = 4,         /* tail x, tail y, head x, head y */
+    OUTLINE_MOST_EDGES = 4096,            /* in one list */
+    OUTLINE_LIMIT = 1000000,              /* coordinates: -limit to limit */
+    OUTLINE_JOURNAL_NUMBERS_PER_EDGE = 8, /* to lend, at least */
+    OUTLINE_NUMBERS_PER_RECORD = 4,       /* level, name, row, offset */
+    OUTLINE_NUMBERS_PER_ROW = 8           /* to lend for each row */
+};
+
+/*
+ * The refusals, by number. `place` is the place of an edge in the list, from 0,
+ * where an edge is named below, and 0 otherwise.
+ *
+ * 1 to 4 are tried first. Then the first edge with any of 5, 6, 7 decides, in
+ * that order within an edge. Then 8 is tried over the whole list, then 9, then
+ * 10. Likewise 11, 12, 13 and 14 one after the other.
+ */
+enum {
+    OUTLINE_ACCEPTED = 0,
+    /* outline_number */
+    OUTLINE_PART_OF_AN_EDGE = 1, /* the list's length is no multiple of 4 */
+    OUTLINE_TOO_MANY_EDGES = 2,  /* more than 4,096 */
+    OUTLINE_LIST_LENGTH = 3,     /* polygons or sequences: not one an edge */
+    OUTLINE_SHORT_JOURNAL = 4,   /* fewer than 8 numbers an edge */
+    OUTLINE_PAST_THE_RANGE = 5,  /* the edge has a coordinate past the limit */
+    OUTLINE_EQUAL_ENDS = 6,      /* the edge begins where it ends */
+    OUTLINE_OUT_OF_ORDER = 7,    /* its top is below the top before it */
+    OUTLINE_KIND_TAKEN = 8,      /* it arrives at a point, or leaves one, on the
+                                    side on which an earlier edge does */
+    OUTLINE_OPEN_END = 9,        /* it has an end where arriving and leaving
+                                    edges are not equally many */
+    OUTLINE_NO_FREE_ROW = 10,    /* too few rows: when it was treated */
+    /* outline_turns */
+    OUTLINE_TURN_LENGTHS = 11,   /* the lengths differ, or are above 4,096 */
+    OUTLINE_POLYGON_ZERO = 12,   /* the edge has polygon number 0 */
+    OUTLINE_PAIR_TAKEN = 13,     /* an earlier edge has both its numbers */
+    OUTLINE_GAP = 14             /* no edge stands one before it, in its polygon
+                                    or among polygons */
+};
+
+/* The answer of outline_number. */
+typedef struct {
+    uint32_t refusal;  /* 0: accepted */
+    uint32_t place;    /* accepted: 0 */
+    uint32_t polygons; /* how many outlines; refused: 0 */
+    uint32_t peak;     /* the most rows in use at any moment; refused: 0 */
+    uint32_t records;  /* how many records in the journal; refused: 0 */
+} outline_sheet;
+
+/* The answer of outline_turns. */
+typedef struct {
+    uint32_t refusal;  /* 0: accepted */
+    uint32_t place;    /* accepted: 0 */
+    uint32_t polygons; /* how many outlines; refused: 0 */
+} outline_turned;
+
+/*
+ * Numbers a list of edges.
+ *
+ *   edges      four numbers an edge, in sweep order: no edge has its higher end
+ *              below that of the edge before it, a point being higher by y and
+ *              at equal y by x. Not changed.
+ *   polygons   one number an edge: its outline, from 1. The outline with the
+ *              highest top is number 1.
+ *   sequences  one number an edge: its place round its outline, from 0. The
+ *              edge that leaves the highest point has 0.
+ *   journal    8 numbers an edge or more. Holds the records of the sweep up
+ *              afterwards, 4 numbers each, then zeros.
+ *   rows       8 numbers a row; what is over at the end is no row. What the
+ *              rows hold before does not matter. All zeros afterwards.
+ *
+ * Accepted: polygons and sequences are filled, journal and rows as said.
+ * Refused: polygons and sequences are as they were; so are journal and rows,
+ * but for refusal 10, which leaves both all zeros.
+ *
+ * How many rows to lend: let C be the most edges that pass any one point (its
+ * lower end is below the point, its higher end is not) and L the number of
+ * edges of the longest outline. C times the whole part of log2 L rows are
+ * always enough. Who does not know L may take the number of all edges. The
+ * answer's peak is the exact number for this list: with so many it is accepted
+ * again, with fewer it gets refusal 10. Lending more costs their clearing only.
+ */
+outline_sheet outline_number(const int32_t *edges, size_t edges_length,
+                             uint32_t *polygons, size_t polygons_length,
+                             uint32_t *sequences, size_t sequences_length,
+                             int32_t *journal, size_t journal_length,
+                             int32_t *rows, size_t rows_length);
+
+/*
+ * Reads the turn list from a polygon list and a sequence list: the places of
+ * the edges, outline by outline and each in sequence order. All three have one
+ * number an edge. Accepted are exactly the numberings whose polygon numbers run
+ * from 1 without a gap and in which the sequence numbers of each polygon run
+ * from 0 without gap or repeat. Refused: the turn list is as it was.
+ */
+outline_turned outline_turns(const uint32_t *polygons, size_t polygons_length,
+                             const uint32_t *sequences, size_t sequences_length,
+                             uint32_t *turns, size_t turns_length);
+
+#ifdef __cplusplus
+}
+#endif
+
+#endif

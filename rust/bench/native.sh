@@ -1,0 +1,68 @@
+#!/usr/bin/env bash
+# The benchmark at full speed on a machine that is not x86-64. The engine's static library is for x86-64 only, and a time
+# under an emulator says nothing. So the engine is built as always, the bitcode that its compiler is handed is kept, and the
+# same bitcode is compiled once more for this machine, at the same level. What is timed then is not the shipped archive.
+#     rust/bench/native.sh            proves and compiles the engine, then runs the benchmark
+# Needs rt, cargo and a Rust library for this machine. Leaves target/native/libdesk.a.
+set -euo pipefail
+here=$(cd "$(dirname "$0")/../.." && pwd)
+machine=$(uname -m)
+if [ "$machine" = x86_64 ]; then
+    exec "$here/.ci/cargo" run --release -p bench
+fi
+
+kit=${RATTLE_HOME:-$(dirname "$(dirname "$(readlink -f "$(command -v rt)")")")}
+tools=$kit/on/$machine/toolchain
+work=$(mktemp -d)
+trap 'rm -rf "$work"' EXIT
+
+link_all_but() { # link_all_but NAME FROM TO: everything in one folder, but for one thing, as links in another
+    mkdir -p "$3"
+    for entry in "$2"/*; do
+        [ "$(basename "$entry")" = "$1" ] || ln -s "$(readlink -f "$entry")" "$3/$(basename "$entry")"
+    done
+}
+
+# A copy of the kit, made of links, whose clang keeps what it is handed. Names matter to the tool behind the links in bin.
+link_all_but on "$kit" "$work/kit"
+link_all_but toolchain "$kit/on/$machine" "$work/kit/on/$machine"
+link_all_but bin "$tools" "$work/kit/on/$machine/toolchain"
+link_all_but clang "$tools/bin" "$work/kit/on/$machine/toolchain/bin"
+cat >"$work/kit/on/$machine/toolchain/bin/clang" <<WRAPPER
+#!/bin/sh
+for word in "\$@"; do
+    case \$word in *.bc) cp "\$word" "$work/engine.bc" ;; esac
+done
+exec "$tools/bin/clang" "\$@"
+WRAPPER
+chmod +x "$work/kit/on/$machine/toolchain/bin/clang"
+
+cd "$here"
+rm -f target/staticlib/libdesk.a
+RATTLE_HOME=$work/kit rt staticlib desk
+[ -f "$work/engine.bc" ] || { echo "native: the engine's bitcode was not seen" >&2; exit 1; }
+
+# The same code for this machine: its own layout of data, no features of the other one. The two kinds of machine hand over the
+# place of a large answer differently; the engine's function takes it as its first argument, which a line of C makes up for.
+"$tools/bin/clang" -Wno-everything -x ir "$work/engine.bc" -S -emit-llvm -o "$work/theirs.ll"
+sed -E -e '/^target datalayout/d' -e "s/^target triple.*/target triple = \"$machine-unknown-linux-gnu\"/" \
+    -e 's/"(target-cpu|target-features|tune-cpu)"="[^"]*"//g' -e 's/@outline_number\(/@outline_number_into(/' "$work/theirs.ll" >"$work/ours.ll"
+"$tools/bin/clang" --target="$machine-unknown-linux-gnu" -Wno-everything -O3 -fPIC -ffunction-sections -c -x ir "$work/ours.ll" -o "$work/desk.o"
+cat >"$work/answer.c" <<'C'
+#include "outline.h"
+
+void outline_number_into(outline_sheet *, const int32_t *, size_t, uint32_t *, size_t, uint32_t *, size_t, int32_t *, size_t, int32_t *, size_t);
+
+outline_sheet outline_number(const int32_t *e, size_t el, uint32_t *p, size_t pl, uint32_t *s, size_t sl, int32_t *j, size_t jl, int32_t *r, size_t rl)
+{
+    outline_sheet sheet;
+    outline_number_into(&sheet, e, el, p, pl, s, sl, j, jl, r, rl);
+    return sheet;
+}
+C
+cc -O3 -fPIC -Wall -Werror -I include -c "$work/answer.c" -o "$work/answer.o"
+mkdir -p target/native
+rm -f target/native/libdesk.a
+"$tools/bin/llvm-ar" rcs target/native/libdesk.a "$work/desk.o" "$work/answer.o"
+
+OUTLINE_ARCHIVE=$here/target/native/libdesk.a exec cargo run --release --manifest-path rust/Cargo.toml --target-dir target/native/cargo -p bench

@@ -1,0 +1,232 @@
+//! Joining by a hash map, as one would write it without Hartley's method: the
+//! same checks in the same order, each edge's follower looked up by point and
+//! side, every round walked once, outlines sorted by their tops. It gives the
+//! same polygon and sequence numbers and the same refusals 1 to 9; it writes no
+//! journal and needs no rows.
+
+use std::collections::HashMap;
+
+use witness::checks::{Refusal, JOURNAL_NUMBERS_PER_EDGE};
+use witness::geometry::{read_edges, Edge, Point, MOST_EDGES, NUMBERS_PER_EDGE};
+
+/// Numbers a list; gives how many outlines there are.
+pub fn number(
+    numbers: &[i32],
+    polygons: &mut [u32],
+    sequences: &mut [u32],
+    journal: usize,
+) -> Result<u32, Refusal> {
+    check_lengths(numbers.len(), polygons.len(), sequences.len(), journal)?;
+    let edges = read_edges(numbers);
+    check_edges(&edges)?;
+    let ends = Ends::of(&edges)?;
+    ends.check_balance(&edges)?;
+    let followers = ends.followers(&edges);
+    Ok(walk(&edges, &followers, polygons, sequences))
+}
+
+/// Refusals 1 to 4.
+fn check_lengths(
+    numbers: usize,
+    polygons: usize,
+    sequences: usize,
+    journal: usize,
+) -> Result<(), Refusal> {
+    let edges = numbers / NUMBERS_PER_EDGE;
+    if numbers % NUMBERS_PER_EDGE != 0 {
+        Err(Refusal::at(1, 0))
+    } else if edges > MOST_EDGES {
+        Err(Refusal::at(2, 0))
+    } else if polygons != edges || sequences != edges {
+        Err(Refusal::at(3, 0))
+    } else if journal < JOURNAL_NUMBERS_PER_EDGE * edges {
+        Err(Refusal::at(4, 0))
+    } else {
+        Ok(())
+    }
+}
+
+/// Refusals 5 to 7.
+fn check_edges(edges: &[Edge]) -> Result<(), Refusal> {
+    let mut before = Point::new(i32::MIN, i32::MIN);
+    for (place, edge) in edges.iter().enumerate() {
+        if !edge.tail.is_in_range() || !edge.head.is_in_range() {
+            return Err(Refusal::at(5, place));
+        }
+        if edge.tail == edge.head {
+            return Err(Refusal::at(6, place));
+        }
+        let top = edge.top();
+        if top < before {
+            return Err(Refusal::at(7, place));
+        }
+        before = top;
+    }
+    Ok(())
+}
+
+/// The edges at a point: for each of the four kinds, one edge or none.
+#[derive(Clone, Copy)]
+struct Meeting {
+    arriving: [u32; 2],
+    leaving: [u32; 2],
+}
+
+/// No edge.
+const NONE: u32 = u32::MAX;
+
+impl Meeting {
+    const EMPTY: Meeting = Meeting {
+        arriving: [NONE; 2],
+        leaving: [NONE; 2],
+    };
+
+    fn is_balanced(&self) -> bool {
+        let count = |edges: [u32; 2]| edges.iter().filter(|edge| **edge != NONE).count();
+        count(self.arriving) == count(self.leaving)
+    }
+}
+
+/// All points of a list with the edges there.
+struct Ends {
+    meetings: HashMap<Point, Meeting>,
+}
+
+impl Ends {
+    /// Gathers the ends; refusal 8 where a kind is taken.
+    fn of(edges: &[Edge]) -> Result<Ends, Refusal> {
+        let mut meetings: HashMap<Point, Meeting> = HashMap::with_capacity(edges.len());
+        for (place, edge) in edges.iter().enumerate() {
+            let up = usize::from(edge.is_up());
+            let tail = meetings.entry(edge.tail).or_insert(Meeting::EMPTY);
+            let tail_free = take(&mut tail.leaving[up], place);
+            let head = meetings.entry(edge.head).or_insert(Meeting::EMPTY);
+            let head_free = take(&mut head.arriving[1 - up], place);
+            if !tail_free || !head_free {
+                return Err(Refusal::at(8, place));
+            }
+        }
+        Ok(Ends { meetings })
+    }
+
+    /// Refusal 9: the points are looked at first, and the edges again only
+    /// where one is open.
+    fn check_balance(&self, edges: &[Edge]) -> Result<(), Refusal> {
+        if self.meetings.values().all(Meeting::is_balanced) {
+            return Ok(());
+        }
+        let open = |point: &Point| !self.meetings[point].is_balanced();
+        let place = edges
+            .iter()
+            .position(|edge| open(&edge.tail) || open(&edge.head));
+        Err(Refusal::at(9, place.unwrap_or(0)))
+    }
+
+    /// For each edge the one that follows it: the one that leaves on its own
+    /// side of the point, else the one on the other side.
+    fn followers(&self, edges: &[Edge]) -> Vec<u32> {
+        let follower = |edge: &Edge| {
+            let side = usize::from(!edge.is_up());
+            let leaving = self.meetings[&edge.head].leaving;
+            match leaving[side] {
+                NONE => leaving[1 - side],
+                follower => follower,
+            }
+        };
+        edges.iter().map(follower).collect()
+    }
+}
+
+/// Takes a free place for an edge; whether it was free.
+fn take(place: &mut u32, edge: usize) -> bool {
+    let free = *place == NONE;
+    if free {
+        *place = edge as u32;
+    }
+    free
+}
+
+/// Walks every round from the edge that leaves its top, highest top first. The
+/// list is in sweep order, so going back through it the first edge met of a
+/// round ends or begins at its top.
+fn walk(edges: &[Edge], followers: &[u32], polygons: &mut [u32], sequences: &mut [u32]) -> u32 {
+    polygons.fill(0);
+    let mut count = 0;
+    for last in (0..edges.len()).rev() {
+        if polygons[last] != 0 {
+            continue;
+        }
+        count += 1;
+        let first = if edges[last].is_up() {
+            followers[last] as usize
+        } else {
+            last
+        };
+        number_round(first, count, followers, polygons, sequences);
+    }
+    count
+}
+
+/// Numbers the edges of one round.
+fn number_round(
+    first: usize,
+    polygon: u32,
+    followers: &[u32],
+    polygons: &mut [u32],
+    sequences: &mut [u32],
+) {
+    let (mut edge, mut sequence) = (first, 0);
+    while polygons[edge] == 0 {
+        polygons[edge] = polygon;
+        sequences[edge] = sequence;
+        sequence += 1;
+        edge = followers[edge] as usize;
+    }
+}
+
+#[cfg(test)]
+mod tests {
+    use super::*;
+    use witness::call::Call;
+    use witness::generate::{any, damaged, Seed};
+    use witness::Answer;
+
+    /// The numbers and the refusal of a call.
+    fn outcome(call: &Call) -> (Result<u32, Refusal>, Vec<u32>, Vec<u32>) {
+        let mut polygons = vec![7; call.polygons];
+        let mut sequences = vec![7; call.sequences];
+        let answer = number(&call.edges, &mut polygons, &mut sequences, call.journal);
+        (answer, polygons, sequences)
+    }
+
+    #[test]
+    fn the_numbers_of_the_witness() {
+        for seed in 0..1_000 {
+            let seed = Seed(seed);
+            let sheet = any(&mut seed.random());
+            let rows = outline::rows_enough(&sheet);
+            let call = Call::fitting(sheet, rows);
+            let wanted = call.outcome(witness::number);
+            let (answer, polygons, sequences) = outcome(&call);
+            match wanted.answer {
+                Answer::Accepted { polygons, .. } => assert_eq!(answer, Ok(polygons)),
+                Answer::Refused(refusal) => panic!("{:?}", refusal),
+            }
+            assert_eq!(polygons, wanted.polygons);
+            assert_eq!(sequences, wanted.sequences);
+        }
+    }
+
+    #[test]
+    fn the_refusals_of_the_witness() {
+        for refusal in 1..=9 {
+            for seed in 0..if refusal == 2 { 10 } else { 200 } {
+                let seed = Seed(seed);
+                let call = damaged(&mut seed.random(), refusal);
+                let (answer, _, _) = outcome(&call);
+                let wanted = call.outcome(witness::number).answer;
+                assert_eq!(answer.map_err(Answer::Refused), Err(wanted));
+            }
+        }
+    }
+}

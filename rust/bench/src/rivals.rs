@@ -1,0 +1,170 @@
+//! The three ways to number a sheet, on the same lent slices: the engine, the
+//! witness's steps, and joining by a hash map. Before anything is timed their
+//! results are compared. And the engine's turn list.
+
+use outline::{Answer, TurnAnswer};
+use witness::generate::Sheet;
+use witness::geometry::read_edges;
+use witness::steps::{sweep_down, sweep_up};
+
+use crate::hashed;
+use crate::timing::best;
+
+/// A sheet with all that is lent for it. The slices are used again and again as
+/// the last run left them; whoever needs them clear clears them in its own time.
+pub struct Desk {
+    edges: Sheet,
+    polygons: Vec<u32>,
+    sequences: Vec<u32>,
+    turns: Vec<u32>,
+    journal: Vec<i32>,
+    rows: Vec<i32>,
+}
+
+/// What was measured of a sheet, in nanoseconds.
+pub struct Times {
+    /// The engine.
+    pub engine: f64,
+    /// The witness.
+    pub witness: f64,
+    /// The witness's two sweeps alone, without its checks.
+    pub sweeps: f64,
+    /// The hash map.
+    pub hashed: f64,
+    /// The engine's turn list.
+    pub turns: f64,
+}
+
+impl Desk {
+    /// A sheet with so many rows.
+    pub fn new(edges: Sheet, rows: usize) -> Desk {
+        let count = edges.len() / outline::NUMBERS_PER_EDGE;
+        Desk {
+            polygons: vec![7; count],
+            sequences: vec![7; count],
+            turns: vec![7; count],
+            journal: vec![7; outline::JOURNAL_NUMBERS_PER_EDGE * count],
+            rows: vec![7; outline::NUMBERS_PER_ROW * rows],
+            edges,
+        }
+    }
+
+    /// How many edges the sheet has.
+    pub fn count(&self) -> usize {
+        self.polygons.len()
+    }
+
+    /// Compares the results of all three; gives the peak.
+    ///
+    /// # Panics
+    /// When they differ.
+    pub fn compare(&mut self) -> usize {
+        let (polygons, peak) = match self.engine() {
+            Answer::Accepted { polygons, peak, .. } => (polygons, peak),
+            Answer::Refused(refusal) => panic!("the engine refuses: {}", refusal),
+        };
+        let (numbers, journal) = (self.numbers(), self.journal.clone());
+        self.spoil();
+        match self.witness() {
+            witness::Answer::Accepted { peak: same, .. } => assert_eq!(peak, same),
+            witness::Answer::Refused(refusal) => panic!("the witness refuses: {:?}", refusal),
+        }
+        assert!(numbers == self.numbers(), "the witness differs");
+        assert!(journal == self.journal, "the witness's journal differs");
+        self.spoil();
+        assert_eq!(self.hashed(), polygons);
+        assert!(numbers == self.numbers(), "the hash map differs");
+        assert_eq!(self.engine_turns(), TurnAnswer::Accepted { polygons });
+        let mut list = vec![0; self.count()];
+        witness::turns(&self.polygons, &self.sequences, &mut list);
+        assert!(self.turns == list, "the turn list differs");
+        peak as usize
+    }
+
+    /// Times all of it.
+    pub fn time(&mut self) -> Times {
+        Times {
+            engine: self.time_engine(),
+            witness: best(|| {
+                self.witness();
+            }),
+            sweeps: self.time_sweeps(),
+            hashed: best(|| {
+                self.hashed();
+            }),
+            turns: best(|| {
+                self.engine_turns();
+            }),
+        }
+    }
+
+    /// Times the engine alone.
+    pub fn time_engine(&mut self) -> f64 {
+        best(|| {
+            self.engine();
+        })
+    }
+
+    /// Times the witness's two sweeps on the list as edges.
+    fn time_sweeps(&self) -> f64 {
+        let edges = read_edges(&self.edges);
+        let rows = self.rows.len() / outline::NUMBERS_PER_ROW;
+        best(|| {
+            let swept = sweep_up(&edges, rows).expect("rows enough");
+            let numbering = sweep_down(&swept.records, edges.len());
+            assert_eq!(numbering.polygons.len(), edges.len());
+        })
+    }
+
+    /// Times the clearing of the lent rows alone.
+    pub fn time_clearing(&mut self) -> f64 {
+        let time = best(|| self.rows.fill(0));
+        assert!(self.rows.iter().all(|number| *number == 0));
+        time
+    }
+
+    fn engine(&mut self) -> Answer {
+        outline::number(
+            &self.edges,
+            &mut self.polygons,
+            &mut self.sequences,
+            &mut self.journal,
+            &mut self.rows,
+        )
+    }
+
+    fn witness(&mut self) -> witness::Answer {
+        witness::number(
+            &self.edges,
+            &mut self.polygons,
+            &mut self.sequences,
+            &mut self.journal,
+            &mut self.rows,
+        )
+    }
+
+    fn hashed(&mut self) -> u32 {
+        let (polygons, sequences) = (&mut self.polygons, &mut self.sequences);
+        let journal = self.journal.len();
+        match hashed::number(&self.edges, polygons, sequences, journal) {
+            Ok(polygons) => polygons,
+            Err(refusal) => panic!("the hash map refuses: {:?}", refusal),
+        }
+    }
+
+    fn engine_turns(&mut self) -> TurnAnswer {
+        outline::turns(&self.polygons, &self.sequences, &mut self.turns)
+    }
+
+    /// What the two lists hold.
+    fn numbers(&self) -> (Vec<u32>, Vec<u32>) {
+        (self.polygons.clone(), self.sequences.clone())
+    }
+
+    /// Leaves nothing in the lists and the journal of what was found.
+    fn spoil(&mut self) {
+        self.polygons.fill(7);
+        self.sequences.fill(7);
+        self.journal.fill(7);
+    }
+}

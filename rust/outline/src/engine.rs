@@ -1,0 +1,91 @@
+//! The engine's two functions as its static library exports them, and the only
+//! unsafe code of this crate: each slice is handed over as its pointer and its
+//! length. `include/outline.h` declares the same for C.
+#![allow(unsafe_code)]
+
+/// The answer to a numbering call. Accepted: refusal and place are 0. Refused:
+/// the other three are 0.
+#[repr(C)]
+pub struct Sheet {
+    pub refusal: u32,
+    pub place: u32,
+    pub polygons: u32,
+    pub peak: u32,
+    pub records: u32,
+}
+
+/// The answer to a turn list call. Accepted: refusal and place are 0. Refused:
+/// the number of polygons is 0.
+#[repr(C)]
+pub struct Turned {
+    pub refusal: u32,
+    pub place: u32,
+    pub polygons: u32,
+}
+
+extern "C" {
+    fn outline_number(
+        edges: *const i32,
+        edges_length: usize,
+        polygons: *mut u32,
+        polygons_length: usize,
+        sequences: *mut u32,
+        sequences_length: usize,
+        journal: *mut i32,
+        journal_length: usize,
+        rows: *mut i32,
+        rows_length: usize,
+    ) -> Sheet;
+
+    fn outline_turns(
+        polygons: *const u32,
+        polygons_length: usize,
+        sequences: *const u32,
+        sequences_length: usize,
+        turns: *mut u32,
+        turns_length: usize,
+    ) -> Turned;
+}
+
+/// Numbers a list on lent slices of any lengths.
+pub fn number(
+    edges: &[i32],
+    polygons: &mut [u32],
+    sequences: &mut [u32],
+    journal: &mut [i32],
+    rows: &mut [i32],
+) -> Sheet {
+    // SAFETY: the engine reads and writes only inside the slices that it is
+    // told of, whatever their lengths and contents; it keeps no pointer, has no
+    // state and calls nothing back. The borrows make the slices valid and
+    // disjoint for the call.
+    unsafe {
+        outline_number(
+            edges.as_ptr(),
+            edges.len(),
+            polygons.as_mut_ptr(),
+            polygons.len(),
+            sequences.as_mut_ptr(),
+            sequences.len(),
+            journal.as_mut_ptr(),
+            journal.len(),
+            rows.as_mut_ptr(),
+            rows.len(),
+        )
+    }
+}
+
+/// Reads the turn list from two lists of any lengths.
+pub fn turns(polygons: &[u32], sequences: &[u32], turns: &mut [u32]) -> Turned {
+    // SAFETY: as for `number`.
+    unsafe {
+        outline_turns(
+            polygons.as_ptr(),
+            polygons.len(),
+            sequences.as_ptr(),
+            sequences.len(),
+            turns.as_mut_ptr(),
+            turns.len(),
+        )
+    }
+}

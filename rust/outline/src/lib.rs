@@ -1,0 +1,60 @@
+//! The outline engine for Rust programs. It takes the directed edges of a
+//! drawing in sweep order and gives each edge the number of the closed outline
+//! that it belongs to and its place round that outline, or says what is wrong
+//! with the list. The engine itself is proved and comes as a static library;
+//! this crate is a thin safe face over it.
+//!
+//! An edge is four numbers: tail x, tail y, head x, head y. The whole list in,
+//! all the numbers out:
+//!
+//! ```
+//! use outline::Outlines;
+//!
+//! let triangle = [0, 0, 4, 2, 4, 2, 1, 5, 1, 5, 0, 0];
+//! let outlines = Outlines::of(&triangle)?;
+//! assert_eq!(outlines.count(), 1);
+//! assert_eq!(outlines.polygons(), [1, 1, 1]);
+//! assert_eq!(outlines.sequences(), [1, 2, 0]);
+//! assert_eq!(outlines.places(1), [2, 0, 1]);
+//! # Ok::<(), outline::Refusal>(())
+//! ```
+//!
+//! [`number()`] and [`turns()`] are the engine's two calls on slices that the
+//! caller lends, with nothing allocated; [`rows_enough`] says how many rows to
+//! lend. [`text`] reads sheets as the program `outline` does, and [`picture`]
+//! draws them.
+
+#![deny(unsafe_code, unsafe_op_in_unsafe_fn, missing_docs)]
+
+mod engine;
+mod number;
+mod outlines;
+pub mod picture;
+mod refusal;
+mod rows;
+pub mod text;
+mod turns;
+
+pub use number::{number, Answer};
+pub use outlines::Outlines;
+pub use refusal::Refusal;
+pub use rows::rows_enough;
+pub use turns::{turns, TurnAnswer};
+
+/// How many numbers an edge takes in a list: tail x, tail y, head x, head y.
+pub const NUMBERS_PER_EDGE: usize = 4;
+
+/// The most edges that a list may hold.
+pub const MOST_EDGES: usize = 4096;
+
+/// The greatest coordinate, on either side of zero.
+pub const LIMIT: i32 = 1_000_000;
+
+/// How many numbers must be lent to the journal for each edge.
+pub const JOURNAL_NUMBERS_PER_EDGE: usize = 8;
+
+/// How many numbers a record takes in the journal.
+pub const NUMBERS_PER_RECORD: usize = 4;
+
+/// How many numbers a row takes in the rows slice.
+pub const NUMBERS_PER_ROW: usize = 8;

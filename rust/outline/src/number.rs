@@ -1,0 +1,68 @@
+//! The numbering call on lent slices.
+
+use crate::engine;
+use crate::refusal::Refusal;
+
+/// What a numbering call answers.
+#[derive(Clone, Copy, PartialEq, Eq, Hash, Debug)]
+pub enum Answer {
+    /// The list is numbered.
+    Accepted {
+        /// How many outlines there are.
+        polygons: u32,
+        /// The most rows that were in use at any moment. So many are needed
+        /// and enough for this list.
+        peak: u32,
+        /// How many records stand in the journal.
+        records: u32,
+    },
+    /// The list is not numbered, for this reason.
+    Refused(Refusal),
+}
+
+/// Numbers a list of edges in slices that the caller lends. Nothing is
+/// allocated, and no length and no number makes the call panic: what does not
+/// fit is refused.
+///
+/// - `edges`: four numbers an edge, in sweep order.
+/// - `polygons`, `sequences`: one number an edge. When accepted they hold each
+///   edge's outline, from 1, and its place round it, from 0; a refusal leaves
+///   them as they were.
+/// - `journal`: at least eight numbers an edge. When accepted it holds the
+///   records of the sweep up, four numbers each, and then zeros.
+/// - `rows`: eight numbers a row, as many rows as [`rows_enough`] says or fewer
+///   at the risk of refusal 10. What they hold before does not matter. When
+///   accepted they are all zero.
+///
+/// Refusals 1 to 9 leave journal and rows as they were, refusal 10 leaves them
+/// all zero.
+///
+/// ```
+/// use outline::{number, Answer};
+///
+/// let triangle = [0, 0, 4, 2, 4, 2, 1, 5, 1, 5, 0, 0];
+/// let (mut polygons, mut sequences) = ([0; 3], [0; 3]);
+/// let (mut journal, mut rows) = ([0; 24], [0; 8]);
+/// let answer = number(&triangle, &mut polygons, &mut sequences, &mut journal, &mut rows);
+/// assert_eq!(answer, Answer::Accepted { polygons: 1, peak: 1, records: 4 });
+/// assert_eq!((polygons, sequences), ([1, 1, 1], [1, 2, 0]));
+/// ```
+///
+/// [`rows_enough`]: crate::rows_enough
+pub fn number(
+    edges: &[i32],
+    polygons: &mut [u32],
+    sequences: &mut [u32],
+    journal: &mut [i32],
+    rows: &mut [i32],
+) -> Answer {
+    let sheet = engine::number(edges, polygons, sequences, journal, rows);
+    match Refusal::of(sheet.refusal, sheet.place) {
+        Some(refusal) => Answer::Refused(refusal),
+        None => Answer::Accepted {
+            polygons: sheet.polygons,
+            peak: sheet.peak,
+            records: sheet.records,
+        },
+    }
+}

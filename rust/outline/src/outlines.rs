@@ -1,0 +1,124 @@
+//! The numbering of a list, owned: the room is sized and lent here.
+
+use crate::number::{number, Answer};
+use crate::refusal::Refusal;
+use crate::rows::rows_enough;
+use crate::turns::{turns, TurnAnswer};
+use crate::{JOURNAL_NUMBERS_PER_EDGE, NUMBERS_PER_EDGE, NUMBERS_PER_ROW};
+
+/// The outlines of a list of edges: for each edge its outline and its place
+/// round it, and for each outline its edges in order.
+///
+/// ```
+/// use outline::Outlines;
+///
+/// // Two outlines that touch at the point (1, 6).
+/// let touching = [
+///     3, 2, 1, 6, 1, 6, 3, 0, 1, 6, 2, 7, 3, 0, 6, 8, 6, 8, 3, 2, 2, 7, 0, 9, 0, 9, 1, 6,
+/// ];
+/// let outlines = Outlines::of(&touching)?;
+/// assert_eq!(outlines.count(), 2);
+/// assert_eq!(outlines.polygons(), [2, 2, 1, 2, 2, 1, 1]);
+/// assert_eq!(outlines.sequences(), [1, 2, 1, 3, 0, 2, 0]);
+/// assert_eq!(outlines.places(1), [6, 2, 5]);
+/// assert_eq!(outlines.places(2), [4, 0, 1, 3]);
+/// assert_eq!((outlines.peak(), outlines.records()), (4, 11));
+/// # Ok::<(), outline::Refusal>(())
+/// ```
+#[derive(Clone, PartialEq, Eq, Debug)]
+pub struct Outlines {
+    polygons: Vec<u32>,
+    sequences: Vec<u32>,
+    turns: Vec<u32>,
+    /// Where each outline begins in the turn list, and where the last ends.
+    starts: Vec<usize>,
+    peak: u32,
+    records: u32,
+}
+
+impl Outlines {
+    /// Numbers a list of edges with room enough, and reads the turn list.
+    pub fn of(edges: &[i32]) -> Result<Outlines, Refusal> {
+        let count = edges.len() / NUMBERS_PER_EDGE;
+        let mut outlines = Outlines {
+            polygons: vec![0; count],
+            sequences: vec![0; count],
+            turns: vec![0; count],
+            starts: Vec::new(),
+            peak: 0,
+            records: 0,
+        };
+        outlines.number(edges)?;
+        outlines.turn()?;
+        Ok(outlines)
+    }
+
+    fn number(&mut self, edges: &[i32]) -> Result<(), Refusal> {
+        let mut journal = vec![0; JOURNAL_NUMBERS_PER_EDGE * self.polygons.len()];
+        let mut rows = vec![0; NUMBERS_PER_ROW * rows_enough(edges)];
+        let (polygons, sequences) = (&mut self.polygons, &mut self.sequences);
+        match number(edges, polygons, sequences, &mut journal, &mut rows) {
+            Answer::Accepted { peak, records, .. } => {
+                self.peak = peak;
+                self.records = records;
+                Ok(())
+            }
+            Answer::Refused(refusal) => Err(refusal),
+        }
+    }
+
+    fn turn(&mut self) -> Result<(), Refusal> {
+        if let TurnAnswer::Refused(refusal) =
+            turns(&self.polygons, &self.sequences, &mut self.turns)
+        {
+            return Err(refusal);
+        }
+        let first = |at: &usize| self.sequences[self.turns[*at] as usize] == 0;
+        self.starts = (0..self.turns.len()).filter(first).collect();
+        self.starts.push(self.turns.len());
+        Ok(())
+    }
+
+    /// How many outlines there are.
+    pub fn count(&self) -> usize {
+        self.starts.len() - 1
+    }
+
+    /// Each edge's outline, from 1, in list order. Outlines are numbered from
+    /// the one with the highest top down.
+    pub fn polygons(&self) -> &[u32] {
+        &self.polygons
+    }
+
+    /// Each edge's place round its outline, in list order. The edge that leaves
+    /// the highest point has 0.
+    pub fn sequences(&self) -> &[u32] {
+        &self.sequences
+    }
+
+    /// The edges' places in the list, outline by outline and each in sequence
+    /// order.
+    pub fn turns(&self) -> &[u32] {
+        &self.turns
+    }
+
+    /// The places of one outline's edges, in sequence order: each edge ends
+    /// where the next begins, and the last where the first does. Empty for a
+    /// number that no outline has.
+    pub fn places(&self, outline: usize) -> &[u32] {
+        if outline == 0 || outline > self.count() {
+            return &[];
+        }
+        &self.turns[self.starts[outline - 1]..self.starts[outline]]
+    }
+
+    /// The most rows that were in use at any moment.
+    pub fn peak(&self) -> u32 {
+        self.peak
+    }
+
+    /// How many records the sweep up wrote.
+    pub fn records(&self) -> u32 {
+        self.records
+    }
+}

@@ -1,0 +1,181 @@
+//! The marks of a sheet, from the bottom layer to the top: film, edges with
+//! arrow heads, rings, tops with the outlines' numbers.
+
+use super::canvas::{shown, shown_spot, Canvas};
+use super::colour;
+use super::frame::Frame;
+use super::plane::Spot;
+use super::sheet::{Point, Round, Sheet};
+
+/// Sizes at which marks are drawn where edges lie as far apart as wanted.
+const LINE: f64 = 2.2;
+const ARROW: f64 = 9.0;
+const DOT: f64 = 5.5;
+
+/// The radius of a top's disc.
+pub const DISC: f64 = 9.5;
+
+/// The radius of the ring round a touching point.
+pub const RING: f64 = 12.0;
+
+/// Draws the whole sheet.
+pub fn draw(sheet: &Sheet, frame: &Frame, canvas: &mut Canvas) {
+    draw_film(sheet, frame, canvas);
+    for round in &sheet.rounds {
+        draw_edges(round, frame, canvas);
+    }
+    draw_rings(sheet, frame, canvas);
+    for round in &sheet.rounds {
+        draw_top(round, frame, canvas);
+    }
+}
+
+/// Film lies on the left of each edge: an outline that holds film is tinted, a
+/// hole is white. The larger come first, so that a hole lies on its surround.
+fn draw_film(sheet: &Sheet, frame: &Frame, canvas: &mut Canvas) {
+    let mut rounds: Vec<&Round> = sheet.rounds.iter().collect();
+    rounds.sort_by_key(|round| std::cmp::Reverse(round.area().abs()));
+    canvas.open("stroke=\"none\" fill-rule=\"evenodd\"");
+    for round in rounds {
+        let film = if round.area() > 0 {
+            let colour = colour::of_outline(round.number);
+            format!("fill=\"{}\" fill-opacity=\"0.13\"", colour)
+        } else {
+            "fill=\"#ffffff\"".to_string()
+        };
+        canvas.add(&format!("<path {} d=\"{}\"/>", film, line(round, frame)));
+    }
+    canvas.close();
+}
+
+/// The closed line of an outline.
+fn line(round: &Round, frame: &Frame) -> String {
+    let corner = |point: &Point| shown_spot(frame.spot(*point));
+    let corners: Vec<String> = round.corners.iter().map(corner).collect();
+    format!("M{}Z", corners.join("L"))
+}
+
+/// The edges of an outline, each with an arrow head past its middle.
+fn draw_edges(round: &Round, frame: &Frame, canvas: &mut Canvas) {
+    let colour = colour::of_outline(round.number);
+    canvas.add(&format!(
+        "<path class=\"outline\" fill=\"none\" stroke=\"{}\" stroke-width=\"{}\" stroke-linejoin=\"round\" d=\"{}\"/>",
+        colour,
+        shown(LINE * frame.size),
+        line(round, frame)
+    ));
+    let heads: String = round
+        .edges()
+        .map(|edge| arrow_head(&Way::of(edge, frame), frame.size))
+        .collect();
+    canvas.add(&format!("<path fill=\"{}\" d=\"{}\"/>", colour, heads));
+}
+
+/// An edge on the picture.
+pub struct Way {
+    /// Its middle.
+    pub middle: Spot,
+    /// Its direction, of length 1.
+    pub along: Spot,
+    /// Its length.
+    pub length: f64,
+}
+
+impl Way {
+    /// The way of an edge from its tail to its head.
+    pub fn of(edge: (Point, Point), frame: &Frame) -> Way {
+        let (tail, head) = (frame.spot(edge.0), frame.spot(edge.1));
+        Way {
+            middle: (tail + head) * 0.5,
+            along: (head - tail).unit(),
+            length: (head - tail).length(),
+        }
+    }
+
+    /// How far a spot is from the nearest one on the edge.
+    pub fn distance(&self, spot: Spot) -> f64 {
+        let from_middle = spot - self.middle;
+        let along = from_middle.x * self.along.x + from_middle.y * self.along.y;
+        let half = 0.5 * self.length;
+        (from_middle - self.along * along.clamp(-half, half)).length()
+    }
+}
+
+/// A triangle that begins at the middle of the edge and points to its head. Two
+/// edges that lie on one another the opposite way both show theirs.
+fn arrow_head(way: &Way, size: f64) -> String {
+    let long = (ARROW * size).min(0.4 * way.length);
+    let half = way.along.left() * (0.42 * long);
+    let tip = way.middle + way.along * long;
+    format!(
+        "M{}L{}L{}Z",
+        shown_spot(way.middle + half),
+        shown_spot(tip),
+        shown_spot(way.middle - half)
+    )
+}
+
+/// A ring round every point where four edges meet.
+fn draw_rings(sheet: &Sheet, frame: &Frame, canvas: &mut Canvas) {
+    for point in &sheet.touching {
+        draw_ring(frame.spot(*point), frame.size, canvas);
+    }
+}
+
+/// One ring, dark on yellow.
+pub fn draw_ring(middle: Spot, size: f64, canvas: &mut Canvas) {
+    let halo = format!(
+        "fill=\"none\" stroke=\"#ffd60a\" stroke-width=\"{}\"",
+        shown(5.0 * size)
+    );
+    let ring = format!(
+        "class=\"touching\" fill=\"none\" stroke=\"#1d2939\" stroke-width=\"{}\"",
+        shown(1.6 * size)
+    );
+    canvas.circle(middle, RING * size, &halo);
+    canvas.circle(middle, RING * size, &ring);
+}
+
+/// The top of an outline: a disc with its number, or a dot where there is no
+/// room for numbers.
+fn draw_top(round: &Round, frame: &Frame, canvas: &mut Canvas) {
+    let top = frame.spot(round.corners[0]);
+    let colour = colour::of_outline(round.number);
+    if frame.numbered {
+        draw_disc(top, frame.size, &colour, &round.number.to_string(), canvas);
+    } else {
+        draw_dot(top, frame.size, &colour, canvas);
+    }
+}
+
+/// A disc with a number in it.
+pub fn draw_disc(middle: Spot, size: f64, colour: &str, number: &str, canvas: &mut Canvas) {
+    let (radius, border) = (DISC * size, 1.5 * size);
+    let paint = format!(
+        "class=\"top\" fill=\"{}\" stroke=\"#ffffff\" stroke-width=\"{}\"",
+        colour,
+        shown(border)
+    );
+    canvas.circle(middle, radius, &paint);
+    let letters = match number.len() {
+        1 => 1.3,
+        2 => 1.1,
+        3 => 0.8,
+        _ => 0.6,
+    };
+    let letters = format!(
+        "fill=\"#ffffff\" font-weight=\"bold\" font-size=\"{}\"",
+        shown(radius * letters)
+    );
+    canvas.plain_text(middle, &letters, number);
+}
+
+/// A small disc without a number.
+pub fn draw_dot(middle: Spot, size: f64, colour: &str, canvas: &mut Canvas) {
+    let paint = format!(
+        "class=\"top\" fill=\"{}\" stroke=\"#ffffff\" stroke-width=\"{}\"",
+        colour,
+        shown(size)
+    );
+    canvas.circle(middle, DOT * size, &paint);
+}

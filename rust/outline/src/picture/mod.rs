@@ -1,0 +1,56 @@
+//! A sheet drawn as SVG: every outline in its own colour with its number at its
+//! top, every edge with an arrow head and its sequence number, a ring round
+//! every point where four edges meet, y upwards. The same list gives the same
+//! bytes on every machine.
+
+mod canvas;
+mod colour;
+mod frame;
+mod legend;
+mod marks;
+mod numbers;
+mod plane;
+mod sheet;
+
+use crate::outlines::Outlines;
+use crate::refusal::Refusal;
+
+use canvas::Canvas;
+use frame::Frame;
+use sheet::Sheet;
+
+/// Lists with more edges than this are drawn without any numbers.
+pub const MOST_NUMBERED: usize = 400;
+
+/// Numbers a list and draws it.
+///
+/// ```
+/// let svg = outline::picture::draw(&[0, 0, 4, 2, 4, 2, 1, 5, 1, 5, 0, 0])?;
+/// assert!(svg.starts_with("<svg ") && svg.ends_with("</svg>\n"));
+/// # Ok::<(), outline::Refusal>(())
+/// ```
+pub fn draw(edges: &[i32]) -> Result<String, Refusal> {
+    let outlines = Outlines::of(edges)?;
+    let sheet = Sheet::new(edges, &outlines);
+    let frame = Frame::around(&sheet);
+    let mut canvas = Canvas::new(&frame, &title(&sheet, &outlines));
+    frame.draw_grid(&mut canvas);
+    marks::draw(&sheet, &frame, &mut canvas);
+    if frame.numbered {
+        numbers::draw(&sheet, &frame, &mut canvas);
+    }
+    legend::draw(&sheet, &frame, &mut canvas);
+    Ok(canvas.finish())
+}
+
+/// What the picture shows, in words.
+fn title(sheet: &Sheet, outlines: &Outlines) -> String {
+    format!(
+        "Outlines: {}, edges: {}, touching points: {}, peak: {}, records: {}",
+        outlines.count(),
+        sheet.edges,
+        sheet.touching.len(),
+        outlines.peak(),
+        outlines.records()
+    )
+}

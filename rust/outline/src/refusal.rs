@@ -1,0 +1,255 @@
+//! Why a list, a numbering or a text is refused: a case for each refusal, with
+//! the number that the rules give it, its place, and a sentence that says what
+//! is wrong and what to do.
+
+use std::error::Error;
+use std::fmt;
+
+/// A refusal. An edge is named by its place in the list, from 0, and a line of
+/// a text by its number, from 1.
+///
+/// ```
+/// use outline::{Outlines, Refusal};
+///
+/// let refusal = Outlines::of(&[5, 5, 5, 5]).unwrap_err();
+/// assert_eq!(refusal, Refusal::EqualEnds { edge: 0 });
+/// assert_eq!((refusal.number(), refusal.place()), (6, 0));
+/// println!("{}", refusal);
+/// ```
+#[derive(Clone, Copy, PartialEq, Eq, Hash, Debug)]
+#[non_exhaustive]
+pub enum Refusal {
+    /// 1: the list's length is no multiple of four.
+    PartOfAnEdge,
+    /// 2: the list has more than 4,096 edges.
+    TooManyEdges,
+    /// 3: the polygon list or the sequence list is not one number an edge.
+    ListLength,
+    /// 4: the journal is shorter than eight numbers an edge.
+    ShortJournal,
+    /// 5: a coordinate is past the range.
+    PastTheRange {
+        /// The first such edge.
+        edge: u32,
+    },
+    /// 6: an edge has equal ends.
+    EqualEnds {
+        /// The first such edge.
+        edge: u32,
+    },
+    /// 7: the list is not in sweep order.
+    OutOfOrder {
+        /// The first edge whose top is below the top before it.
+        edge: u32,
+    },
+    /// 8: two edges arrive at a point, or leave it, on one side.
+    KindTaken {
+        /// The first edge that finds its kind taken.
+        edge: u32,
+    },
+    /// 9: at a point not as many edges arrive as leave.
+    OpenEnd {
+        /// The first edge with an end at such a point.
+        edge: u32,
+    },
+    /// 10: the rows lent do not suffice.
+    NoFreeRow {
+        /// The edge that was being treated.
+        edge: u32,
+    },
+    /// 11: the three lists of the turn list call differ in length or are longer
+    /// than 4,096.
+    TurnLengths,
+    /// 12: a polygon number is 0.
+    PolygonZero {
+        /// The first such edge.
+        edge: u32,
+    },
+    /// 13: two edges have the same polygon and sequence number.
+    PairTaken {
+        /// The first edge whose pair an earlier edge has.
+        edge: u32,
+    },
+    /// 14: a number is left out, among polygons or within one.
+    Gap {
+        /// The first edge with no edge one before it.
+        edge: u32,
+    },
+    /// 15: a line of a text is malformed.
+    Malformed {
+        /// The first such line, from 1.
+        line: u32,
+    },
+    /// A number that this crate does not know. It comes only from an archive
+    /// that is newer than the crate.
+    Unknown {
+        /// The refusal's number.
+        number: u32,
+        /// Its place.
+        place: u32,
+    },
+}
+
+impl Refusal {
+    /// The refusal of this number and place; none for number 0, which is no
+    /// refusal.
+    pub(crate) fn of(number: u32, place: u32) -> Option<Refusal> {
+        let edge = place;
+        let refusal = match number {
+            0 => return None,
+            1 => Refusal::PartOfAnEdge,
+            2 => Refusal::TooManyEdges,
+            3 => Refusal::ListLength,
+            4 => Refusal::ShortJournal,
+            5 => Refusal::PastTheRange { edge },
+            6 => Refusal::EqualEnds { edge },
+            7 => Refusal::OutOfOrder { edge },
+            8 => Refusal::KindTaken { edge },
+            9 => Refusal::OpenEnd { edge },
+            10 => Refusal::NoFreeRow { edge },
+            11 => Refusal::TurnLengths,
+            12 => Refusal::PolygonZero { edge },
+            13 => Refusal::PairTaken { edge },
+            14 => Refusal::Gap { edge },
+            _ => Refusal::Unknown { number, place },
+        };
+        Some(refusal)
+    }
+
+    /// The refusal's number in the rules, 1 to 15.
+    pub fn number(self) -> u32 {
+        match self {
+            Refusal::PartOfAnEdge => 1,
+            Refusal::TooManyEdges => 2,
+            Refusal::ListLength => 3,
+            Refusal::ShortJournal => 4,
+            Refusal::PastTheRange { .. } => 5,
+            Refusal::EqualEnds { .. } => 6,
+            Refusal::OutOfOrder { .. } => 7,
+            Refusal::KindTaken { .. } => 8,
+            Refusal::OpenEnd { .. } => 9,
+            Refusal::NoFreeRow { .. } => 10,
+            Refusal::TurnLengths => 11,
+            Refusal::PolygonZero { .. } => 12,
+            Refusal::PairTaken { .. } => 13,
+            Refusal::Gap { .. } => 14,
+            Refusal::Malformed { .. } => 15,
+            Refusal::Unknown { number, .. } => number,
+        }
+    }
+
+    /// The refusal's place: an edge's place from 0, a line's number from 1, and
+    /// 0 where it speaks of no single one.
+    pub fn place(self) -> u32 {
+        match self {
+            Refusal::Malformed { line } => line,
+            Refusal::Unknown { place, .. } => place,
+            _ => self.edge().unwrap_or(0),
+        }
+    }
+
+    /// The edge that the refusal speaks of, if it speaks of one.
+    pub fn edge(self) -> Option<u32> {
+        match self {
+            Refusal::PastTheRange { edge }
+            | Refusal::EqualEnds { edge }
+            | Refusal::OutOfOrder { edge }
+            | Refusal::KindTaken { edge }
+            | Refusal::OpenEnd { edge }
+            | Refusal::NoFreeRow { edge }
+            | Refusal::PolygonZero { edge }
+            | Refusal::PairTaken { edge }
+            | Refusal::Gap { edge } => Some(edge),
+            _ => None,
+        }
+    }
+
+    /// What is wrong, as the end of a sentence that begins with the edge or the
+    /// line that it speaks of, if any.
+    fn fault(self) -> &'static str {
+        match self {
+            Refusal::PartOfAnEdge => "the list ends in the middle of an edge",
+            Refusal::TooManyEdges => "the list has more than 4,096 edges",
+            Refusal::ListLength => {
+                "the polygon list or the sequence list has not one number for each edge"
+            }
+            Refusal::ShortJournal => "the journal is too short",
+            Refusal::PastTheRange { .. } => {
+                "has a coordinate below -1,000,000 or above 1,000,000"
+            }
+            Refusal::EqualEnds { .. } => "begins and ends at the same point",
+            Refusal::OutOfOrder { .. } => {
+                "has its higher end below the higher end of the edge before it"
+            }
+            Refusal::KindTaken { .. } => {
+                "arrives at a point, or leaves one, on the same side of it as an earlier edge does"
+            }
+            Refusal::OpenEnd { .. } => {
+                "has an end where not as many edges arrive as leave, so that an outline is open there"
+            }
+            Refusal::NoFreeRow { .. } => "finds no free row",
+            Refusal::TurnLengths => {
+                "the polygon list, the sequence list and the turn list are not equally long, or longer than 4,096"
+            }
+            Refusal::PolygonZero { .. } => "has the polygon number 0",
+            Refusal::PairTaken { .. } => {
+                "has the same polygon number and sequence number as an earlier edge"
+            }
+            Refusal::Gap { .. } => {
+                "comes after a gap: no edge has the sequence number, or the polygon number, one below its own"
+            }
+            Refusal::Malformed { .. } => "is malformed",
+            Refusal::Unknown { .. } => "the engine refuses for a reason that is not known here",
+        }
+    }
+
+    /// What to do about it.
+    fn remedy(self) -> &'static str {
+        match self {
+            Refusal::PartOfAnEdge => {
+                "give every edge four numbers: tail x, tail y, head x, head y"
+            }
+            Refusal::TooManyEdges => "split the sheet",
+            Refusal::ListLength => "make both as long as there are edges",
+            Refusal::ShortJournal => "lend it eight numbers or more for each edge",
+            Refusal::PastTheRange { .. } => "move or shrink the drawing",
+            Refusal::EqualEnds { .. } => "leave it out",
+            Refusal::OutOfOrder { .. } => {
+                "sort the edges by the y of their higher ends, and at equal y by the x"
+            }
+            Refusal::KindTaken { .. } => {
+                "if it is drawn twice leave one out, else move the point apart into two"
+            }
+            Refusal::OpenEnd { .. } => {
+                "add the edge that is missing, or turn round the one that runs the wrong way"
+            }
+            Refusal::NoFreeRow { .. } => "lend more rows; rows_enough says how many always do",
+            Refusal::TurnLengths => "lend one number for each edge in all three",
+            Refusal::PolygonZero { .. } => "number polygons from 1",
+            Refusal::PairTaken { .. } => "give each edge of a polygon a sequence number of its own",
+            Refusal::Gap { .. } => {
+                "number polygons from 1 and the edges of each from 0, leaving none out"
+            }
+            Refusal::Malformed { .. } => {
+                "write four whole numbers of up to seven digits with one space between them, no needless zeros, and a newline after the last"
+            }
+            Refusal::Unknown { .. } => "build the program again with the archive that it is used with",
+        }
+    }
+}
+
+impl fmt::Display for Refusal {
+    fn fmt(&self, to: &mut fmt::Formatter) -> fmt::Result {
+        if let Some(edge) = self.edge() {
+            write!(to, "edge {} (counted from 0) ", edge)?;
+        }
+        match self {
+            Refusal::Malformed { line } => write!(to, "line {} ", line)?,
+            Refusal::Unknown { number, place } => write!(to, "refusal {} {}: ", number, place)?,
+            _ => {}
+        }
+        write!(to, "{}: {}", self.fault(), self.remedy())
+    }
+}
+
+impl Error for Refusal {}

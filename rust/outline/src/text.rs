@@ -1,0 +1,77 @@
+//! Sheets as text, in the form that the program `outline` reads: a line an
+//! edge, four whole numbers with one space between, a newline after. The
+//! program's own limits, 512 lines and 20,480 bytes, are not kept here; a list
+//! may be as long as the engine takes it.
+
+use crate::refusal::Refusal;
+use crate::NUMBERS_PER_EDGE;
+
+/// The most digits of a number.
+pub const MOST_DIGITS: usize = 7;
+
+/// The edge list in a text, or refusal 15 with the first malformed line.
+///
+/// ```
+/// use outline::text::read_sheet;
+/// use outline::Refusal;
+///
+/// assert_eq!(read_sheet(b"0 0 1 1\n1 1 0 0\n"), Ok(vec![0, 0, 1, 1, 1, 1, 0, 0]));
+/// assert_eq!(read_sheet(b"0 0 1 1\n1 1 0\n"), Err(Refusal::Malformed { line: 2 }));
+/// ```
+pub fn read_sheet(text: &[u8]) -> Result<Vec<i32>, Refusal> {
+    let mut edges = Vec::new();
+    let lines = text.split_inclusive(|byte| *byte == b'\n');
+    for (above, line) in lines.enumerate() {
+        let edge = read_line(line).ok_or(Refusal::Malformed {
+            line: above as u32 + 1,
+        })?;
+        edges.extend(edge);
+    }
+    Ok(edges)
+}
+
+/// The four numbers of a line, unless it is malformed.
+fn read_line(line: &[u8]) -> Option<[i32; NUMBERS_PER_EDGE]> {
+    let text = line.strip_suffix(b"\n")?;
+    let mut words = text.split(|byte| *byte == b' ');
+    let mut edge = [0; NUMBERS_PER_EDGE];
+    for number in &mut edge {
+        *number = read_number(words.next()?)?;
+    }
+    match words.next() {
+        Some(_) => None,
+        None => Some(edge),
+    }
+}
+
+/// A number: perhaps a minus, then one to seven digits. Zero has one digit and
+/// no minus, and no other number begins with it.
+fn read_number(word: &[u8]) -> Option<i32> {
+    let (sign, digits) = match word {
+        [b'-', digits @ ..] => (-1, digits),
+        digits => (1, digits),
+    };
+    let zero = digits.first() == Some(&b'0') && word != b"0";
+    if zero || digits.is_empty() || digits.len() > MOST_DIGITS {
+        return None;
+    }
+    let mut number = 0;
+    for digit in digits {
+        if !digit.is_ascii_digit() {
+            return None;
+        }
+        number = 10 * number + i32::from(digit - b'0');
+    }
+    Some(sign * number)
+}
+
+/// An edge list as text; numbers left over after the last whole edge are left
+/// out.
+///
+/// ```
+/// assert_eq!(outline::text::write_sheet(&[0, 0, -1, 1]), "0 0 -1 1\n");
+/// ```
+pub fn write_sheet(edges: &[i32]) -> String {
+    let line = |edge: &[i32]| format!("{} {} {} {}\n", edge[0], edge[1], edge[2], edge[3]);
+    edges.chunks_exact(NUMBERS_PER_EDGE).map(line).collect()
+}

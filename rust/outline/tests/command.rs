@@ -1,0 +1,81 @@
+//! The command `outline-svg`: what it writes where, and its exit status.
+
+use std::env;
+use std::io::Write;
+use std::process::{Command, Output, Stdio};
+
+/// Where cargo is told how to run what it has built for x86-64.
+const RUNNER: &str = "CARGO_TARGET_X86_64_UNKNOWN_LINUX_GNU_RUNNER";
+
+/// Runs the command with these arguments and this input.
+fn run(arguments: &[&str], input: &[u8]) -> Output {
+    let words = [env::var(RUNNER).unwrap_or_default()];
+    let runner = words
+        .iter()
+        .map(String::as_str)
+        .filter(|word| !word.is_empty());
+    let mut words = runner.chain([env!("CARGO_BIN_EXE_outline-svg")]);
+    let mut child = Command::new(words.next().unwrap())
+        .args(words)
+        .args(arguments)
+        .stdin(Stdio::piped())
+        .stdout(Stdio::piped())
+        .stderr(Stdio::piped())
+        .spawn()
+        .unwrap();
+    child.stdin.take().unwrap().write_all(input).unwrap();
+    child.wait_with_output().unwrap()
+}
+
+fn text(bytes: &[u8]) -> String {
+    String::from_utf8_lossy(bytes).into_owned()
+}
+
+const TRIANGLE: &[u8] = b"0 0 4 2\n4 2 1 5\n1 5 0 0\n";
+
+#[test]
+fn a_picture_from_standard_input() {
+    let edges = outline::text::read_sheet(TRIANGLE).unwrap();
+    let drawn = outline::picture::draw(&edges).unwrap();
+    for arguments in [&[][..], &["-"][..]] {
+        let output = run(arguments, TRIANGLE);
+        assert_eq!(output.status.code(), Some(0));
+        assert_eq!(text(&output.stdout), drawn);
+        assert_eq!(text(&output.stderr), "");
+    }
+}
+
+#[test]
+fn a_picture_from_a_file() {
+    let sample = concat!(env!("CARGO_MANIFEST_DIR"), "/../../samples/touching.txt");
+    let output = run(&[sample], b"");
+    assert_eq!(output.status.code(), Some(0));
+    assert!(text(&output.stdout).starts_with("<svg "));
+}
+
+#[test]
+fn a_refused_sheet() {
+    let output = run(&[], b"0 0 4 2\n4 2 1 5\n");
+    assert_eq!(output.status.code(), Some(1));
+    assert_eq!(text(&output.stdout), "");
+    let message = text(&output.stderr);
+    let begin = "outline-svg: standard input: refused 9 0 (line 1): edge 0 (counted from 0) has ";
+    assert!(message.starts_with(begin), "{}", message);
+    let output = run(&[], b"0 0 4 2\n4 2 1,5\n");
+    assert_eq!(output.status.code(), Some(1));
+    let message = text(&output.stderr);
+    let begin = "outline-svg: standard input: refused 15 2: line 2 is malformed: ";
+    assert!(message.starts_with(begin), "{}", message);
+}
+
+#[test]
+fn a_command_that_is_not_understood() {
+    for arguments in [&["-x"][..], &["a", "b"][..], &["no/such/sheet.txt"][..]] {
+        let output = run(arguments, b"");
+        assert_eq!(output.status.code(), Some(2));
+        assert!(output.stdout.is_empty() && !output.stderr.is_empty());
+    }
+    let output = run(&["--help"], b"");
+    assert_eq!(output.status.code(), Some(0));
+    assert!(text(&output.stdout).starts_with("outline-svg: draw"));
+}

@@ -1,0 +1,101 @@
+//! The examples of the documentation, run as plain tests too: a build for
+//! another machine does not run those in the comments.
+
+use outline::text::{read_sheet, write_sheet};
+use outline::{number, picture, rows_enough, turns, Answer, Outlines, Refusal, TurnAnswer};
+
+const TRIANGLE: [i32; 12] = [0, 0, 4, 2, 4, 2, 1, 5, 1, 5, 0, 0];
+const TOUCHING: [i32; 28] = [
+    3, 2, 1, 6, 1, 6, 3, 0, 1, 6, 2, 7, 3, 0, 6, 8, 6, 8, 3, 2, 2, 7, 0, 9, 0, 9, 1, 6,
+];
+
+#[test]
+fn the_whole_list_in_all_the_numbers_out() -> Result<(), Refusal> {
+    let outlines = Outlines::of(&TRIANGLE)?;
+    assert_eq!(outlines.count(), 1);
+    assert_eq!(outlines.polygons(), [1, 1, 1]);
+    assert_eq!(outlines.sequences(), [1, 2, 0]);
+    assert_eq!(outlines.places(1), [2, 0, 1]);
+    Ok(())
+}
+
+#[test]
+fn on_lent_slices() {
+    let (mut polygons, mut sequences) = ([0; 3], [0; 3]);
+    let (mut journal, mut rows) = ([0; 24], [0; 8]);
+    let answer = number(
+        &TRIANGLE,
+        &mut polygons,
+        &mut sequences,
+        &mut journal,
+        &mut rows,
+    );
+    let accepted = Answer::Accepted {
+        polygons: 1,
+        peak: 1,
+        records: 4,
+    };
+    assert_eq!(answer, accepted);
+    assert_eq!((polygons, sequences), ([1, 1, 1], [1, 2, 0]));
+}
+
+#[test]
+fn a_turn_list() {
+    let (polygons, sequences) = ([2, 1, 2, 1], [1, 0, 0, 1]);
+    let mut places = [0; 4];
+    let answer = turns(&polygons, &sequences, &mut places);
+    assert_eq!(answer, TurnAnswer::Accepted { polygons: 2 });
+    assert_eq!(places, [1, 3, 2, 0]);
+}
+
+#[test]
+fn two_outlines_that_touch() -> Result<(), Refusal> {
+    let outlines = Outlines::of(&TOUCHING)?;
+    assert_eq!(outlines.count(), 2);
+    assert_eq!(outlines.polygons(), [2, 2, 1, 2, 2, 1, 1]);
+    assert_eq!(outlines.sequences(), [1, 2, 1, 3, 0, 2, 0]);
+    assert_eq!(outlines.places(1), [6, 2, 5]);
+    assert_eq!(outlines.places(2), [4, 0, 1, 3]);
+    assert_eq!((outlines.peak(), outlines.records()), (4, 11));
+    assert_eq!(outlines.turns(), [6, 2, 5, 4, 0, 1, 3]);
+    assert!(outlines.places(0).is_empty() && outlines.places(3).is_empty());
+    Ok(())
+}
+
+#[test]
+fn no_outline() -> Result<(), Refusal> {
+    let outlines = Outlines::of(&[])?;
+    assert_eq!(outlines.count(), 0);
+    assert!(outlines.places(0).is_empty() && outlines.places(1).is_empty());
+    Ok(())
+}
+
+#[test]
+fn a_refusal() {
+    let refusal = Outlines::of(&[5, 5, 5, 5]).unwrap_err();
+    assert_eq!(refusal, Refusal::EqualEnds { edge: 0 });
+    assert_eq!((refusal.number(), refusal.place()), (6, 0));
+}
+
+#[test]
+fn how_many_rows() {
+    let two_peaks = [3, 2, 1, 6, 1, 6, 3, 0, 3, 0, 6, 8, 6, 8, 3, 2];
+    assert_eq!(rows_enough(&two_peaks), 8);
+    assert_eq!(rows_enough(&[]), 0);
+}
+
+#[test]
+fn sheets_as_text() {
+    let edges = vec![0, 0, 1, 1, 1, 1, 0, 0];
+    assert_eq!(read_sheet(b"0 0 1 1\n1 1 0 0\n"), Ok(edges));
+    let malformed = Refusal::Malformed { line: 2 };
+    assert_eq!(read_sheet(b"0 0 1 1\n1 1 0\n"), Err(malformed));
+    assert_eq!(write_sheet(&[0, 0, -1, 1]), "0 0 -1 1\n");
+}
+
+#[test]
+fn a_picture() -> Result<(), Refusal> {
+    let svg = picture::draw(&TRIANGLE)?;
+    assert!(svg.starts_with("<svg ") && svg.ends_with("</svg>\n"));
+    Ok(())
+}

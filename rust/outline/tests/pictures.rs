@@ -1,0 +1,139 @@
+//! The picture: everything is in the viewBox, every outline has its own colour,
+//! every touching point its ring, numbers are there or left out, and the text
+//! is well formed. And the command that draws it.
+
+use std::collections::BTreeSet;
+
+use outline::picture::{draw, MOST_NUMBERED};
+
+const TOUCHING: [i32; 28] = [
+    3, 2, 1, 6, 1, 6, 3, 0, 1, 6, 2, 7, 3, 0, 6, 8, 6, 8, 3, 2, 2, 7, 0, 9, 0, 9, 1, 6,
+];
+
+/// Squares of side 2 in a row, none touching.
+fn squares(count: i32) -> Vec<i32> {
+    let bottoms = (0..count).map(|at| [3 * at, 0, 3 * at + 2, 0]);
+    let others = (0..count).flat_map(|at| {
+        let (left, right) = (3 * at, 3 * at + 2);
+        [
+            [left, 2, left, 0],
+            [right, 0, right, 2],
+            [right, 2, left, 2],
+        ]
+    });
+    bottoms.chain(others).flatten().collect()
+}
+
+/// The values of an attribute, wherever it stands.
+fn values<'a>(svg: &'a str, attribute: &str) -> Vec<&'a str> {
+    let begin = format!(" {}=\"", attribute);
+    let value = |rest: &'a str| rest.split('"').next().unwrap_or("");
+    svg.split(begin.as_str()).skip(1).map(value).collect()
+}
+
+/// Every tag is closed by its own, and quotes are even.
+fn check_well_formed(svg: &str) {
+    let mut open = Vec::new();
+    for tag in svg.split('<').skip(1) {
+        let (tag, _) = tag.split_once('>').expect("a tag that ends");
+        assert_eq!(tag.matches('"').count() % 2, 0, "{}", tag);
+        let name = tag.split(' ').next().unwrap_or("");
+        if let Some(name) = name.strip_prefix('/') {
+            assert_eq!(open.pop(), Some(name));
+        } else if !tag.ends_with('/') {
+            open.push(name);
+        }
+    }
+    assert!(open.is_empty());
+}
+
+/// All places of lines, discs and texts lie inside the viewBox.
+fn check_fits(svg: &str) {
+    let number = |text: &str| text.parse::<f64>().unwrap();
+    let view: Vec<f64> = values(svg, "viewBox")[0].split(' ').map(number).collect();
+    for (attributes, most) in [(["x", "x1", "cx"], view[2]), (["y", "y1", "cy"], view[3])] {
+        for value in attributes.iter().flat_map(|name| values(svg, name)) {
+            assert!((0.0..=most).contains(&number(value)), "{}", value);
+        }
+    }
+    for path in values(svg, "d").iter().filter(|path| path.ends_with('Z')) {
+        for corner in path
+            .split(['M', 'L', 'Z'].as_slice())
+            .filter(|c| !c.is_empty())
+        {
+            let (x, y) = corner.split_once(' ').unwrap();
+            assert!((0.0..=view[2]).contains(&number(x)), "{}", corner);
+            assert!((0.0..=view[3]).contains(&number(y)), "{}", corner);
+        }
+    }
+}
+
+/// How many elements have this class.
+fn count(svg: &str, class: &str) -> usize {
+    let classes = values(svg, "class");
+    classes.iter().filter(|value| **value == class).count()
+}
+
+/// The colours of the outlines, from their lines.
+fn colours(svg: &str) -> BTreeSet<&str> {
+    let lines = svg.lines().filter(|line| line.contains("\"outline\""));
+    lines.map(|line| values(line, "stroke")[0]).collect()
+}
+
+#[test]
+fn the_touching_sheet() {
+    let svg = draw(&TOUCHING).unwrap();
+    check_well_formed(&svg);
+    check_fits(&svg);
+    assert_eq!((count(&svg, "outline"), colours(&svg).len()), (2, 2));
+    let legend = 1;
+    assert_eq!(count(&svg, "touching"), 1 + legend);
+    assert_eq!(count(&svg, "top"), 2 + legend);
+    let sequences = svg.split("class=\"sequences\"").nth(1).unwrap();
+    for number in ["0", "1", "2", "3"] {
+        assert!(sequences.contains(&format!(">{}</text>", number)));
+    }
+    assert!(svg.contains("<title>Outlines: 2, edges: 7, touching points: 1, peak: 4, records: 11"));
+}
+
+#[test]
+fn the_same_bytes_again() {
+    assert_eq!(draw(&TOUCHING), draw(&TOUCHING));
+}
+
+#[test]
+fn numbers_are_left_out_of_large_sheets() {
+    for (outlines, numbered) in [(100, true), (101, false)] {
+        let sheet = squares(outlines);
+        assert_eq!(sheet.len() / 4 <= MOST_NUMBERED, numbered);
+        let svg = draw(&sheet).unwrap();
+        check_well_formed(&svg);
+        check_fits(&svg);
+        assert_eq!(colours(&svg).len(), outlines as usize);
+        assert_eq!(count(&svg, "sequences"), usize::from(numbered));
+        assert_eq!(count(&svg, "top"), outlines as usize + 1);
+    }
+}
+
+#[test]
+fn sheets_of_every_extent() {
+    let most = 1_000_000;
+    let sheets: [&[i32]; 5] = [
+        &[],
+        &[0, 0, 1, 1, 1, 1, 0, 0],
+        &[-5, 7, most, 7, most, 7, -5, 7],
+        &[3, -most, 3, most, 3, most, 3, -most],
+        &[-most, -most, most, most, most, most, -most, -most],
+    ];
+    for sheet in sheets {
+        let svg = draw(sheet).unwrap();
+        check_well_formed(&svg);
+        check_fits(&svg);
+        assert!(!svg.contains("NaN") && !svg.contains("inf"));
+    }
+}
+
+#[test]
+fn a_refused_sheet_has_no_picture() {
+    assert_eq!(draw(&[5, 5, 5, 5]).unwrap_err().number(), 6);
+}

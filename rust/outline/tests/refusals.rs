@@ -1,0 +1,138 @@
+//! What a refusal says to a person: which edge or line, what is wrong, what to
+//! do. Every refusal says something of its own, and has its number and place.
+
+use std::collections::BTreeSet;
+
+use outline::{number, turns, Answer, Outlines, Refusal, TurnAnswer};
+
+const TRIANGLE: [i32; 12] = [0, 0, 4, 2, 4, 2, 1, 5, 1, 5, 0, 0];
+
+/// The refusals that speak of no edge.
+const OF_NO_EDGE: [Refusal; 5] = [
+    Refusal::PartOfAnEdge,
+    Refusal::TooManyEdges,
+    Refusal::ListLength,
+    Refusal::ShortJournal,
+    Refusal::TurnLengths,
+];
+
+/// The refusals that speak of an edge.
+fn of_an_edge(edge: u32) -> [Refusal; 9] {
+    [
+        Refusal::PastTheRange { edge },
+        Refusal::EqualEnds { edge },
+        Refusal::OutOfOrder { edge },
+        Refusal::KindTaken { edge },
+        Refusal::OpenEnd { edge },
+        Refusal::NoFreeRow { edge },
+        Refusal::PolygonZero { edge },
+        Refusal::PairTaken { edge },
+        Refusal::Gap { edge },
+    ]
+}
+
+#[test]
+fn numbers_and_places() {
+    let numbers = OF_NO_EDGE.map(|refusal| (refusal.number(), refusal.place(), refusal.edge()));
+    assert_eq!(numbers, [1, 2, 3, 4, 11].map(|number| (number, 0, None)));
+    let numbers = of_an_edge(9).map(|refusal| (refusal.number(), refusal.place(), refusal.edge()));
+    let expected = [5, 6, 7, 8, 9, 10, 12, 13, 14];
+    assert_eq!(numbers, expected.map(|number| (number, 9, Some(9))));
+    let malformed = Refusal::Malformed { line: 4 };
+    assert_eq!((malformed.number(), malformed.place()), (15, 4));
+    let unknown = Refusal::Unknown {
+        number: 77,
+        place: 5,
+    };
+    assert_eq!((unknown.number(), unknown.place()), (77, 5));
+}
+
+#[test]
+fn every_refusal_has_a_sentence_of_its_own() {
+    let mut sentences = BTreeSet::new();
+    let mut say = |refusal: Refusal| {
+        let sentence = refusal.to_string();
+        assert!(sentence.contains(": "), "no remedy in {:?}", sentence);
+        assert!(!sentence.contains('\n') && !sentence.contains("  "));
+        sentences.insert(sentence.replace("edge 4095 (counted from 0) ", "an edge "));
+        sentence
+    };
+    for refusal in OF_NO_EDGE {
+        say(refusal);
+    }
+    for refusal in of_an_edge(4095) {
+        assert!(say(refusal).starts_with("edge 4095 (counted from 0) "));
+    }
+    assert!(say(Refusal::Malformed { line: 12 }).starts_with("line 12 is malformed: "));
+    let unknown = Refusal::Unknown {
+        number: 77,
+        place: 5,
+    };
+    assert!(say(unknown).starts_with("refusal 77 5: "));
+    assert_eq!(sentences.len(), 16);
+}
+
+#[test]
+fn one_sentence_in_full() {
+    let refusal = Outlines::of(&[0, 1, 1, 1, 0, 0, 1, 0]).unwrap_err();
+    assert_eq!(
+        refusal.to_string(),
+        "edge 1 (counted from 0) has its higher end below the higher end of the edge before it: \
+         sort the edges by the y of their higher ends, and at equal y by the x"
+    );
+}
+
+#[test]
+fn a_refusal_is_an_error() {
+    let refuse = || -> Result<Outlines, Box<dyn std::error::Error>> { Ok(Outlines::of(&[1])?) };
+    assert!(refuse().unwrap_err().to_string().starts_with("the list "));
+}
+
+/// The answer with so many numbers in the lists, the journal and the rows.
+fn answer(edges: &[i32], lists: usize, journal: usize, rows: usize) -> Answer {
+    number(
+        edges,
+        &mut vec![0; lists],
+        &mut vec![0; lists],
+        &mut vec![0; journal],
+        &mut vec![0; rows],
+    )
+}
+
+#[test]
+fn each_refusal_of_the_engine_comes_as_its_case() {
+    let triangle = |journal, rows| answer(&TRIANGLE, 3, journal, rows);
+    let cases = [
+        (answer(&[0; 5], 1, 8, 8), Refusal::PartOfAnEdge),
+        (answer(&[0; 4 * 4097], 1, 8, 8), Refusal::TooManyEdges),
+        (answer(&TRIANGLE, 2, 24, 8), Refusal::ListLength),
+        (triangle(23, 8), Refusal::ShortJournal),
+        (
+            answer(&[0, 0, 1_000_001, 0], 1, 8, 8),
+            Refusal::PastTheRange { edge: 0 },
+        ),
+        (triangle(24, 7), Refusal::NoFreeRow { edge: 0 }),
+    ];
+    for (answer, refusal) in cases {
+        assert_eq!(answer, Answer::Refused(refusal));
+    }
+}
+
+#[test]
+fn each_refusal_of_the_turn_list_comes_as_its_case() {
+    let refused = |polygons: &[u32], sequences: &[u32], length: usize| match turns(
+        polygons,
+        sequences,
+        &mut vec![0; length],
+    ) {
+        TurnAnswer::Refused(refusal) => refusal,
+        TurnAnswer::Accepted { polygons } => panic!("{} polygons", polygons),
+    };
+    assert_eq!(refused(&[1], &[0], 2), Refusal::TurnLengths);
+    assert_eq!(
+        refused(&[1, 0], &[0, 0], 2),
+        Refusal::PolygonZero { edge: 1 }
+    );
+    assert_eq!(refused(&[1, 1], &[0, 0], 2), Refusal::PairTaken { edge: 1 });
+    assert_eq!(refused(&[1, 1], &[0, 2], 2), Refusal::Gap { edge: 1 });
+}

@@ -1,0 +1,225 @@
+//! The two functions as they are exported, with nothing of the safe crate
+//! between: what the answers hold in the fields that do not apply, and a C
+//! program that includes the header and is linked with the same archive.
+
+use std::fs;
+use std::io::Read;
+use std::path::{Path, PathBuf};
+use std::process::Command;
+
+use tests::process::start;
+use witness::call::{Call, TurnCall};
+use witness::generate::{any, damaged, Random, Seed};
+use witness::{Answer, Refusal, TurnAnswer};
+
+#[repr(C)]
+#[derive(Clone, Copy, PartialEq, Eq, Debug)]
+struct Sheet {
+    refusal: u32,
+    place: u32,
+    polygons: u32,
+    peak: u32,
+    records: u32,
+}
+
+#[repr(C)]
+#[derive(Clone, Copy, PartialEq, Eq, Debug)]
+struct Turned {
+    refusal: u32,
+    place: u32,
+    polygons: u32,
+}
+
+extern "C" {
+    fn outline_number(
+        edges: *const i32,
+        edges_length: usize,
+        polygons: *mut u32,
+        polygons_length: usize,
+        sequences: *mut u32,
+        sequences_length: usize,
+        journal: *mut i32,
+        journal_length: usize,
+        rows: *mut i32,
+        rows_length: usize,
+    ) -> Sheet;
+
+    fn outline_turns(
+        polygons: *const u32,
+        polygons_length: usize,
+        sequences: *const u32,
+        sequences_length: usize,
+        turns: *mut u32,
+        turns_length: usize,
+    ) -> Turned;
+}
+
+/// The engine's own answer to a call.
+fn sheet(call: &Call) -> Sheet {
+    // The crate is used so that its archive is linked.
+    let _ = outline::MOST_EDGES;
+    let mut polygons = vec![0; call.polygons];
+    let mut sequences = vec![0; call.sequences];
+    let mut journal = vec![0; call.journal];
+    let mut rows = vec![0; call.rows];
+    // SAFETY: pointers and lengths are those of slices that are not shared.
+    unsafe {
+        outline_number(
+            call.edges.as_ptr(),
+            call.edges.len(),
+            polygons.as_mut_ptr(),
+            polygons.len(),
+            sequences.as_mut_ptr(),
+            sequences.len(),
+            journal.as_mut_ptr(),
+            journal.len(),
+            rows.as_mut_ptr(),
+            rows.len(),
+        )
+    }
+}
+
+/// The same for a turn list.
+fn turned(call: &TurnCall) -> Turned {
+    let mut turns = vec![0; call.turns];
+    // SAFETY: as above.
+    unsafe {
+        outline_turns(
+            call.polygons.as_ptr(),
+            call.polygons.len(),
+            call.sequences.as_ptr(),
+            call.sequences.len(),
+            turns.as_mut_ptr(),
+            turns.len(),
+        )
+    }
+}
+
+/// What the fields must be for an answer of the witness.
+fn fields(answer: Answer) -> Sheet {
+    let (refusal, place, polygons, peak, records) = match answer {
+        Answer::Accepted {
+            polygons,
+            peak,
+            records,
+        } => (0, 0, polygons, peak, records),
+        Answer::Refused(Refusal { number, place }) => (number, place, 0, 0, 0),
+    };
+    Sheet {
+        refusal,
+        place,
+        polygons,
+        peak,
+        records,
+    }
+}
+
+fn turn_fields(answer: TurnAnswer) -> Turned {
+    let (refusal, place, polygons) = match answer {
+        TurnAnswer::Accepted { polygons } => (0, 0, polygons),
+        TurnAnswer::Refused(Refusal { number, place }) => (number, place, 0),
+    };
+    Turned {
+        refusal,
+        place,
+        polygons,
+    }
+}
+
+#[test]
+fn every_field_of_a_numbering() {
+    for seed in 0..300 {
+        let seed = Seed(seed);
+        let random = &mut seed.random();
+        for refusal in (0..=10).filter(|refusal| *refusal != 2) {
+            let call = match refusal {
+                0 => {
+                    let sheet = any(random);
+                    let rows = outline::rows_enough(&sheet);
+                    Call::fitting(sheet, rows)
+                }
+                refusal => damaged(random, refusal),
+            };
+            let answer = call.outcome(witness::number).answer;
+            assert_eq!(sheet(&call), fields(answer), "{:?}", call);
+        }
+    }
+    let call = damaged(&mut Random::new(0), 2);
+    let wanted = fields(Answer::Refused(Refusal::at(2, 0)));
+    assert_eq!(sheet(&call), wanted);
+}
+
+#[test]
+fn every_field_of_a_turn_list() {
+    for seed in 0..2_000 {
+        let seed = Seed(seed);
+        let random = &mut seed.random();
+        let edges = random.below(5);
+        let mut list = || -> Vec<u32> { (0..edges).map(|_| random.below(3) as u32).collect() };
+        let mut call = TurnCall::fitting(list(), list());
+        if seed.0 % 10 == 0 {
+            call.turns += 1;
+        }
+        let answer = call.outcome(witness::turns).answer;
+        assert_eq!(turned(&call), turn_fields(answer), "{:?}", call);
+    }
+}
+
+const C_PROGRAM: &str = r#"
+#include <stdio.h>
+#include "outline.h"
+
+int main(void)
+{
+    static const int32_t triangle[] = {0, 0, 4, 2, 4, 2, 1, 5, 1, 5, 0, 0};
+    uint32_t polygons[3], sequences[3], turns[3];
+    int32_t journal[3 * OUTLINE_JOURNAL_NUMBERS_PER_EDGE];
+    int32_t rows[OUTLINE_NUMBERS_PER_ROW];
+    outline_sheet sheet = outline_number(triangle, 12, polygons, 3, sequences, 3,
+                                         journal, 24, rows, 8);
+    outline_turned turned = outline_turns(polygons, 3, sequences, 3, turns, 3);
+    outline_sheet refused = outline_number(triangle, 8, polygons, 2, sequences, 2,
+                                           journal, 24, rows, 8);
+    printf("%u %u %u %u %u\n", (unsigned)sheet.refusal, (unsigned)sheet.place,
+           (unsigned)sheet.polygons, (unsigned)sheet.peak, (unsigned)sheet.records);
+    printf("%u %u %u\n", (unsigned)turned.refusal, (unsigned)turned.place,
+           (unsigned)turned.polygons);
+    printf("%u %u %u\n", (unsigned)turns[0], (unsigned)turns[1], (unsigned)turns[2]);
+    printf("%d\n", refused.refusal == OUTLINE_OPEN_END);
+    return 0;
+}
+"#;
+
+/// Compiles a C program with the header and the archive; gives the compiler's
+/// complaint, or nothing where there is no such compiler.
+fn compile(compiler: &str, source: &Path, program: &Path) -> Option<String> {
+    let include = Path::new(env!("CARGO_MANIFEST_DIR")).join("../../include");
+    let output = Command::new(compiler)
+        .args(["-std=c99", "-pedantic", "-Wall", "-Wextra", "-Werror", "-I"])
+        .arg(include)
+        .arg(source)
+        .arg(env!("ENGINE_ARCHIVE"))
+        .arg("-o")
+        .arg(program)
+        .output()
+        .ok()?;
+    Some(String::from_utf8_lossy(&output.stderr).into_owned())
+}
+
+#[test]
+fn a_c_program_with_the_header() {
+    let folder = PathBuf::from(env!("CARGO_TARGET_TMPDIR"));
+    let (source, program) = (folder.join("header.c"), folder.join("header"));
+    fs::write(&source, C_PROGRAM).unwrap();
+    let own = format!("{}-linux-gnu-gcc", std::env::consts::ARCH);
+    let complaint = [own.as_str(), "gcc", "cc"]
+        .iter()
+        .find_map(|compiler| compile(compiler, &source, &program));
+    assert_eq!(complaint.expect("a C compiler"), "");
+    let mut child = start(&program);
+    let mut printed = String::new();
+    let mut output = child.stdout.take().unwrap();
+    output.read_to_string(&mut printed).unwrap();
+    assert!(child.wait().unwrap().success());
+    assert_eq!(printed, "0 0 1 1 4\n0 0 1\n2 0 1\n1\n");
+}

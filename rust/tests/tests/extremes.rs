@@ -1,0 +1,199 @@
+//! Lists at the ends of what may be: no edge, one, the most and one more; parts
+//! of an edge; the coordinates' limits and the ends of their type; the largest
+//! sheets of every shape with the rows at their peak.
+
+use tests::held::{number, refusal};
+use witness::call::Call;
+use witness::generate::{comb, in_sweep_order, pixels, saw, soup, spiral, squares, walks};
+use witness::generate::{Random, Sheet};
+use witness::geometry::{read_edges, Edge, Point};
+use witness::steps::sweep_up;
+use witness::{Answer, Refusal};
+
+fn refused(number: u32, place: u32) -> Answer {
+    Answer::Refused(Refusal { number, place })
+}
+
+/// Pairs of edges there and back, one pair above the other.
+fn there_and_back(pairs: i32) -> Vec<i32> {
+    let pair = |at: i32| [0, 2 * at, 1, 2 * at + 1, 1, 2 * at + 1, 0, 2 * at];
+    (0..pairs).flat_map(pair).collect()
+}
+
+#[test]
+fn no_edge() {
+    let random = &mut Random::new(0);
+    for (journal, rows) in [(0, 0), (1, 0), (0, 1), (7, 9), (100, 1_000)] {
+        let mut call = Call::fitting(Vec::new(), 0);
+        call.journal = journal;
+        call.rows = rows;
+        let accepted = Answer::Accepted {
+            polygons: 0,
+            peak: 0,
+            records: 0,
+        };
+        assert_eq!(number(random, &call), accepted);
+    }
+}
+
+#[test]
+fn one_edge() {
+    let random = &mut Random::new(1);
+    for edge in [[0, 0, 1, 1], [1, 1, 0, 0], [0, 0, 1, 0], [1, 0, 0, 0]] {
+        let call = Call::fitting(edge.to_vec(), 1);
+        assert_eq!(number(random, &call), refused(9, 0));
+    }
+    let call = Call::fitting(vec![5, 5, 5, 5], 0);
+    assert_eq!(number(random, &call), refused(6, 0));
+}
+
+#[test]
+fn parts_of_an_edge() {
+    let random = &mut Random::new(2);
+    for whole in [0, 1, 2, 100, 2_048, 4_096, 4_097, 5_000] {
+        for part in 1..=3 {
+            let edges = vec![0; 4 * whole + part];
+            let call = Call::fitting(edges, 1);
+            assert_eq!(number(random, &call), refused(1, 0));
+        }
+    }
+}
+
+#[test]
+fn the_most_edges_and_one_more() {
+    let random = &mut Random::new(3);
+    let most = there_and_back(2_048);
+    let accepted = Answer::Accepted {
+        polygons: 2_048,
+        peak: 1,
+        records: 3 * 2_048,
+    };
+    assert_eq!(number(random, &Call::fitting(most.clone(), 1)), accepted);
+    assert_eq!(
+        number(random, &Call::fitting(most.clone(), 0)),
+        refused(10, 0)
+    );
+    let mut one_more = most.clone();
+    one_more.extend([0, 9_999, 1, 9_999]);
+    let mut call = Call::fitting(one_more, 1);
+    assert_eq!(number(random, &call), refused(2, 0));
+    call.polygons = 0;
+    call.journal = 0;
+    assert_eq!(number(random, &call), refused(2, 0));
+    let mut call = Call::fitting(most, 1);
+    call.sequences = 4_097;
+    assert_eq!(number(random, &call), refused(3, 0));
+    call.sequences = 4_096;
+    call.journal -= 1;
+    assert_eq!(number(random, &call), refused(4, 0));
+}
+
+#[test]
+fn faults_at_the_last_of_the_most_edges() {
+    let random = &mut Random::new(4);
+    let last = 4 * 4_095;
+    let mut equal_ends = there_and_back(2_048);
+    equal_ends[last + 2] = equal_ends[last];
+    equal_ends[last + 3] = equal_ends[last + 1];
+    assert_eq!(
+        number(random, &Call::fitting(equal_ends, 1)),
+        refused(6, 4_095)
+    );
+    let mut too_low = there_and_back(2_048);
+    too_low[last + 1] = 0;
+    too_low[last + 3] = 1;
+    assert_eq!(
+        number(random, &Call::fitting(too_low, 1)),
+        refused(7, 4_095)
+    );
+    let mut twice = there_and_back(2_048);
+    twice.copy_within(last - 4..last, last);
+    assert_eq!(number(random, &Call::fitting(twice, 1)), refused(8, 4_095));
+    let mut open = there_and_back(2_048);
+    open[last + 2] -= 1;
+    assert_eq!(number(random, &Call::fitting(open, 1)), refused(9, 4_094));
+}
+
+#[test]
+fn the_limits_of_coordinates() {
+    let random = &mut Random::new(5);
+    let most = Point::LIMIT;
+    let corners = [-most, -most, most, most, most, most, -most, -most];
+    assert_eq!(
+        refusal(number(random, &Call::fitting(corners.to_vec(), 1))),
+        0
+    );
+    let past = [most + 1, -most - 1, i32::MAX, i32::MIN, i32::MIN + 1];
+    for at in 0..8 {
+        for number_past in past {
+            let mut edges = corners.to_vec();
+            edges[at] = number_past;
+            let call = Call::fitting(edges, 1);
+            assert_eq!(number(random, &call), refused(5, at as u32 / 4));
+        }
+    }
+    let ends = [i32::MIN, i32::MIN, i32::MAX, i32::MAX];
+    assert_eq!(
+        number(random, &Call::fitting(ends.to_vec(), 1)),
+        refused(5, 0)
+    );
+}
+
+/// Squares in the four corners of the range and the largest one round them.
+#[test]
+fn outlines_along_the_limits() {
+    let random = &mut Random::new(6);
+    let most = Point::LIMIT;
+    let square = |x: i32, y: i32, side: i32| {
+        let corners = [(x, y), (x + side, y), (x + side, y + side), (x, y + side)];
+        let point = |at: usize| Point::new(corners[at % 4].0, corners[at % 4].1);
+        [0, 1, 2, 3].map(|at| Edge::new(point(at), point(at + 1)))
+    };
+    let mut edges = square(-most, -most, 2 * most).to_vec();
+    for x in [-most + 1, most - 2] {
+        for y in [-most + 1, most - 2] {
+            edges.extend(square(x, y, 1));
+        }
+    }
+    let sheet = in_sweep_order(random, edges);
+    let rows = outline::rows_enough(&sheet);
+    let answer = number(random, &Call::fitting(sheet, rows));
+    assert_eq!(refusal(answer), 0);
+}
+
+/// The call with as many rows as the peak is accepted, with one fewer not.
+fn hold_large(random: &mut Random, sheet: Sheet) {
+    let peak = sweep_up(&read_edges(&sheet), usize::MAX).unwrap().peak;
+    assert!(peak <= outline::rows_enough(&sheet));
+    let enough = Call::fitting(sheet.clone(), peak);
+    assert_eq!(refusal(number(random, &enough)), 0);
+    let too_few = Call::fitting(sheet, peak - 1);
+    assert_eq!(refusal(number(random, &too_few)), 10);
+}
+
+#[test]
+fn the_largest_sheets_of_every_shape() {
+    let random = &mut Random::new(7);
+    let large = [
+        saw(random, 11),
+        comb(random, 1_024),
+        spiral(random, 2_048),
+        squares(random, 32, 32),
+        pixels(random, 52, 52, 50, false),
+        soup(random, 1, 4_096, 1_000_000),
+        walks(random, 26, 2_000),
+    ];
+    for sheet in large {
+        assert!(sheet.len() / 4 > 800, "{} edges", sheet.len() / 4);
+        hold_large(random, sheet);
+    }
+}
+
+/// A million rows are as good as just enough.
+#[test]
+fn a_million_rows() {
+    let random = &mut Random::new(8);
+    let sheet = pixels(random, 12, 12, 50, true);
+    let call = Call::fitting(sheet, 1_000_000);
+    assert_eq!(refusal(number(random, &call)), 0);
+}
