@@ -10,7 +10,8 @@ use Rattle.sheet.specs.declared.TurnAnswer.{TurnAnswer}
 use Rattle.sheet.specs.declared.TurnAnswer.the-variants as turn
 use Rattle.sheet.specs.Answers.{numberOf, placeOf}
 use Rattle.sheet.specs.TurnList.{turnNumberOf, turnPlaceOf, turned, TurnsAfter}
-use Rattle.numbering.specs.Outcome.{Left}
+use Rattle.numbering.specs.Outcome.{Lent, Left}
+use Rattle.numbering.specs.Promised.{Promised}
 use Rattle.desk.specs.declared.Sheet.{Sheet}
 use Rattle.desk.specs.declared.Turned.{Turned}
 
@@ -35,6 +36,12 @@ left sheet polygons sequences journal rows = record { sheet = sheet; polygons = 
 
 abbrev pub leftBy : Left → Exported
 leftBy x = left (sheetFrom (x .answer)) (x .polygons) (x .sequences) (x .journal) (x .rows)
+
+-- a call's exported answer: what the numbering promises of the call, by its numbers
+pub record Exports (l : Lent) (y : Exported) : Type 0 where
+  pub inner : Left
+  pub promised : Promised l inner
+  pub same : y ≡ leftBy inner
 
 -- the turn list as it is left, and the answer by its numbers
 pub record ReadTurns (polygons sequences before after : List ℕ) (r : Turned) : Type 0 where

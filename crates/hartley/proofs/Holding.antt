@@ -2,13 +2,10 @@
 -- the record gives its owner is therefore that edge's answer moved by as much: the same polygon, and a sequence number that is 0 or more and below
 -- twice the edges. The rows that records name are rows lent.
 use mathlib.Core.Path.{_≡_, refl, ap, sym, _∙_}
-use mathlib.Core.Bool.{true}
 use mathlib.Core.List.{List, _∷_}
 use Prim.Native.Nat.{ℕ, zero, suc, _+_, _-_, _*_, _≤_, _<_}
 use native.Mathlib.Omega.{arith}
 use lib.IntN.{ℤ, pos, _+ℤ_, +ℤ-assoc}
-use Rattle.laws.specs.Counting.{count}
-use Rattle.laws.proofs.Pigeonhole.{pigeon}
 use Rattle.steps.specs.Rows.{Chain, inRow, closing, Record}
 use Rattle.steps.specs.SweepDown.{Numbers, Reading, readRecord, sweepDown}
 use Rattle.steps.specs.Plain.{plainTables, plainJournal}
@@ -18,13 +15,11 @@ use Rattle.hartley.proofs.Differences.{diff, after-back}
 use Rattle.hartley.proofs.Down as down
 use Rattle.hartley.proofs.Down.{Name, ofEdge, ofRow, nameAt, same-name?, at, done, place, move, eval, shift}
 use Rattle.hartley.proofs.Reading.{recOf, recs, numbersOf, reading-law}
-use Rattle.hartley.proofs.Paths.{out, pick-yes}
-use Rattle.hartley.proofs.Seams.{walk-out}
+use Rattle.hartley.proofs.Paths.{pick-yes}
 use Rattle.hartley.proofs.Changes.{Work}
-use Rattle.hartley.proofs.Limits.{count-every}
 use Rattle.hartley.proofs.Setting.{Setting, Held, nameIn, NameFits, ChainFits}
 use Rattle.hartley.proofs.Ended.{Finished}
-use Rattle.hartley.proofs.Numbers.{answer-is}
+use Rattle.hartley.proofs.Numbers.{index-small, rounds-few, answer-is}
 
 -- numbers that fit a list of so many edges
 pub record Fits (edges : ℕ) (v : Numbers) : Type 0 where
@@ -37,21 +32,6 @@ pub record Fits (edges : ℕ) (v : Numbers) : Type 0 where
 module _ (A : Setting) (s : Work) (F : Finished A s) where
   abbrev edges : ℕ
   edges = A .sheet .edges
-
-  -- an outline has no more edges than the list, and there are no more outlines
-  index-small : (e k i : ℕ) → F .paths .spot e ≡ out k i → i < edges
-  index-small e k i q =
-      let w = F .outs .within e k i q in
-      omega (arith, pigeon (λ a x. F .paths .spot x ≡ out k a) one (λ a. true) (λ x. true) (suc i) edges (λ a l t. let v = walk-out (F .outs) k a (w .0) (omega (arith, w .1)) in (v .0, F .outs .real _ k a (v .1), refl, v .1)), count-every (suc i), count-every edges)
-    where
-      one : (a b x : ℕ) → F .paths .spot x ≡ out k a → F .paths .spot x ≡ out k b → a ≡ b
-      one a b x u v = cc
-
-  rounds-few : F .paths .rounds .count ≤ edges
-  rounds-few = omega (arith, pigeon (λ k x. F .paths .spot x ≡ out k 0) one (λ k. true) (λ x. true) (F .paths .rounds .count) edges (λ k l t. (F .paths .rounds .lead k, F .outs .real _ k 0 (F .outs .first k l), refl, F .outs .first k l)), count-every (F .paths .rounds .count), count-every edges)
-    where
-      one : (a b x : ℕ) → F .paths .spot x ≡ out a 0 → F .paths .spot x ≡ out b 0 → a ≡ b
-      one a b x u v = cc
 
   module _ (table answers : ℕ → Numbers) where
     abbrev Read : Type 0
@@ -72,9 +52,9 @@ module _ (A : Setting) (s : Work) (F : Finished A s) where
         let w = F .outs .within e (c .0) (c .1) (c .2) in
         record {
           from-one = omega (arith, ap (λ v. v .polygon) a);
-          polygon-small = omega (arith, ap (λ v. v .polygon) a, w .0, rounds-few);
+          polygon-small = omega (arith, ap (λ v. v .polygon) a, w .0, rounds-few A s F);
           at = c .1 + f;
-          at-small = omega (arith, index-small e (c .0) (c .1) (c .2));
+          at-small = omega (arith, index-small A s F e (c .0) (c .1) (c .2));
           sequence-is = after-back (v .sequence) f (c .1) (sym (ap (λ v. v .sequence) a));
         }
 

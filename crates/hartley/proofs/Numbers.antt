@@ -2,16 +2,17 @@
 -- that outline's number and that index. Outlines keep the order of joins, begin at their highest place and close in the order of their later top
 -- edge; with one film no two have their tops at one height, and so the order is that of the tops.
 use mathlib.Core.Path.{_≡_, refl, ap, sym, _∙_}
+use mathlib.Core.Bool.{true}
 use mathlib.Core.Logic.{_⊎_, inl, inr, ⊎-elim}
 use Prim.Native.Nat.{ℕ, suc, _+_, _-_, _*_, _≤_, _<_, max}
 use native.Mathlib.Omega.{arith}
 use lib.IntN.{pos}
 use Rattle.laws.proofs.Deciding.{lt-or-le}
+use Rattle.laws.proofs.Pigeonhole.{pigeon}
 use Rattle.sheet.specs.Edges.{topHeight}
 use Rattle.sheet.specs.Joining.{Follows}
 use Rattle.sheet.specs.Numbering.{Numbering}
 use Rattle.sheet.proofs.Checked.{joins}
-use Rattle.sheet.proofs.Outlines.{sequence-small}
 use Rattle.steps.specs.SweepDown.{Numbers, Reading}
 use Rattle.hartley.specs.Swept.{readDown, natural}
 use Rattle.steps.specs.declared.Side.the-variants.{Falling}
@@ -21,9 +22,30 @@ use Rattle.hartley.proofs.Reading.{reading-law, polygons-law}
 use Rattle.hartley.proofs.Paths.{out, Chain}
 use Rattle.hartley.proofs.Outlines.{Outs}
 use Rattle.hartley.proofs.Linked.{toPlace}
+use Rattle.hartley.proofs.Seams.{walk-out}
+use Rattle.hartley.proofs.Limits.{count-every}
 use Rattle.hartley.proofs.Changes.{Work}
 use Rattle.hartley.proofs.Setting.{Setting, plan, laws}
 use Rattle.hartley.proofs.Ended.{Finished}
+
+module _ (A : Setting) (s : Work) (F : Finished A s) where
+  abbrev edges : ℕ
+  edges = A .sheet .edges
+
+  -- an outline has no more edges than the list, and there are no more outlines
+  pub index-small : (e k i : ℕ) → F .paths .spot e ≡ out k i → i < edges
+  index-small e k i q =
+      let w = F .outs .within e k i q in
+      omega (arith, pigeon (λ a x. F .paths .spot x ≡ out k a) one (λ a. true) (λ x. true) (suc i) edges (λ a l t. let v = walk-out (F .outs) k a (w .0) (omega (arith, w .1)) in (v .0, F .outs .real _ k a (v .1), refl, v .1)), count-every (suc i), count-every edges)
+    where
+      one : (a b x : ℕ) → F .paths .spot x ≡ out k a → F .paths .spot x ≡ out k b → a ≡ b
+      one a b x u v = cc
+
+  pub rounds-few : F .paths .rounds .count ≤ edges
+  rounds-few = omega (arith, pigeon (λ k x. F .paths .spot x ≡ out k 0) one (λ k. true) (λ x. true) (F .paths .rounds .count) edges (λ k l t. (F .paths .rounds .lead k, F .outs .real _ k 0 (F .outs .first k l), refl, F .outs .first k l)), count-every (F .paths .rounds .count), count-every edges)
+    where
+      one : (a b x : ℕ) → F .paths .spot x ≡ out a 0 → F .paths .spot x ≡ out b 0 → a ≡ b
+      one a b x u v = cc
 
 module _ (A : Setting) (s : Work) (F : Finished A s) (table answers : ℕ → Numbers) where
   abbrev sh : Plan
@@ -143,12 +165,9 @@ module _ (A : Setting) (s : Work) (F : Finished A s) (table answers : ℕ → Nu
         same-spot : {k k′ i i′ : ℕ} → k ≡ k′ → i ≡ i′ → out k i ≡ out k′ i′
         same-spot p q = cc
 
-    -- the signed numbers are not below 0, and below the number of edges
-    pub sequence-natural : (e : ℕ) → e < A .sheet .edges → (k : ℕ) × (k < A .sheet .edges) × (read .answers e .sequence ≡ pos k)
-    sequence-natural e l =
-        let a = F .closed e l in
-        let q = sequence-is e (a .0) (a .1) (a .2) in
-        (a .1, omega (arith, sequence-small (A .checked) gives-numbering e l, q), ap (λ v. v .sequence) (answer-is e (a .0) (a .1) l (a .2)))
+  -- the signed numbers are not below 0, and below the number of edges
+  pub sequence-natural : (e : ℕ) → e < A .sheet .edges → (k : ℕ) × (k < A .sheet .edges) × (read .answers e .sequence ≡ pos k)
+  sequence-natural e l = let a = F .closed e l in (a .1, index-small A s F e (a .0) (a .1) (a .2), ap (λ v. v .sequence) (answer-is e (a .0) (a .1) l (a .2)))
 
   -- 2E - P
   pub records-few : s .records + read .polygons ≤ 2 * A .sheet .edges

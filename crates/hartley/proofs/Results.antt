@@ -70,12 +70,11 @@ module _ {sh : Sheet} (K : Checked sh) (few : sh .edges ≤ 4096) (rows records 
       later-top-first = later-first A (up .state) F table answers
 
       -- demand 2
-      module _ (one-film-only : (p q : ℕ) → sh .film p ≡ sh .film q) where
-        pub numbering : Numbering sh (λ e. down .answers e .polygon) (λ e. natural (down .answers e .sequence)) (down .polygons)
-        numbering = gives-numbering A (up .state) F table answers one-film-only
+      pub numbering : ((p q : ℕ) → sh .film p ≡ sh .film q) → Numbering sh (λ e. down .answers e .polygon) (λ e. natural (down .answers e .sequence)) (down .polygons)
+      numbering one-film-only = gives-numbering A (up .state) F table answers one-film-only
 
-        pub sequence-numbers : (e : ℕ) → e < sh .edges → (k : ℕ) × (k < sh .edges) × (down .answers e .sequence ≡ pos k)
-        sequence-numbers = sequence-natural A (up .state) F table answers one-film-only
+      pub sequence-numbers : (e : ℕ) → e < sh .edges → (k : ℕ) × (k < sh .edges) × (down .answers e .sequence ≡ pos k)
+      sequence-numbers = sequence-natural A (up .state) F table answers
 
       -- every number that is given on the way fits: rows lent, edges of the list, polygons up to the edges, sequence numbers below twice the edges
       pub all-fits : (H : Holding) → ((r : ℕ) → r < rows → H .Row r) → ((r : ℕ) (v : Numbers) → r < rows → Fits (sh .edges) v → H .InRow r v) → ((e : ℕ) (v : Numbers) → e < sh .edges → Fits (sh .edges) v → H .InAnswer e v)

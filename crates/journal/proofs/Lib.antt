@@ -1,4 +1,3 @@
 pub mod Signs
 pub mod Zeros
-pub mod Sets
 pub mod Writing

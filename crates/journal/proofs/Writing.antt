@@ -11,7 +11,7 @@ use lib.Seq.{length-sets}
 use Rattle.laws.proofs.Deciding.{lt-or-le}
 use Rattle.steps.specs.Rows.{Chain, inRow, closing, Record}
 use Rattle.journal.specs.Layout.{HasRecord, fitting, naturalPart, chainIn, rowNumber, readRecord, writtenIn}
-use Rattle.journal.proofs.Sets.{getD-sets-other, getD-sets-in}
+use Rattle.laws.proofs.Sets.{getD-sets-other, getD-sets-in}
 
 -- the chain's row, where there is one, has 31 bits
 abbrev pub ShortChain : Chain → Type 0

@@ -10,3 +10,4 @@ pub mod Searching
 pub mod Halving
 pub mod Filling
 pub mod Moving
+pub mod Sets

@@ -1,2 +1,6 @@
 pub mod Matching
 pub mod Leaving
+pub mod Renamed
+pub mod MatchingDown
+pub mod Running
+pub mod Promising

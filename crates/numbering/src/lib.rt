@@ -7,7 +7,8 @@ ghost use mathlib.Core.Path.{_≡_};
 ghost use Prim.Native.Nat.{_*_, _/_, _≤_};
 ghost use lib.ListN.{length};
 ghost use Rattle.sheet.specs.declared.Check.the-variants.{Passed};
-ghost use Rattle.numbering.specs.Outcome.{lent, left, sweeps, afterChecks, outcome};
+ghost use Rattle.numbering.specs.Outcome.{lent, left, sweeps, afterChecks};
+ghost use Rattle.numbering.specs.Promised.{Promised};
 
 // How many numbers of the journal an edge needs.
 const JOURNAL_NUMBERS: usize = 8;
@@ -21,7 +22,7 @@ pub fn number(
     journal: &mut [i32],
     rows: &mut [i32],
 ) -> Answer
-    ensures { λ r. ⌜ left r (now (polygons .exit)) (now (sequences .exit)) (now (journal .exit)) (now (rows .exit)) ≡ outcome (lent (now (edges .entry)) (now (polygons .entry)) (now (sequences .entry)) (now (journal .entry)) (now (rows .entry))) ⌝ }
+    ensures { λ r. ⌜ Promised (lent (now (edges .entry)) (now (polygons .entry)) (now (sequences .entry)) (now (journal .entry)) (now (rows .entry))) (left r (now (polygons .exit)) (now (sequences .exit)) (now (journal .exit)) (now (rows .exit))) ⌝ }
 {
     let checked = checks::check(edges, polygons.len(), sequences.len(), journal.len());
     match checked {

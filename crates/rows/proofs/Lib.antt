@@ -3,6 +3,5 @@ pub mod Tips
 pub mod Searching
 pub mod Zeros
 pub mod Looking
-pub mod Sets
 pub mod Writing
 pub mod Representing

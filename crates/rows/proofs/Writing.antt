@@ -18,7 +18,7 @@ use Rattle.steps.specs.declared.Side.the-variants.{Rising, Falling}
 use Rattle.steps.specs.Rows.{on, Branch, Row}
 use Rattle.steps.specs.Plain.{newRow, withBranch, finishedBranch, freeRow}
 use Rattle.rows.specs.Layout.{HasRow, branchAt, levelIn, freedNumber, lookBranch, lookRow, openedIn, movedIn, finishedIn, freedIn}
-use Rattle.rows.proofs.Sets.{getD-sets-other, getD-sets-in}
+use Rattle.laws.proofs.Sets.{getD-sets-other, getD-sets-in}
 
 -- a row by its numbers
 abbrev branchOf : ℤ → ℤ → ℤ → Branch Point

@@ -10,7 +10,7 @@ use lib.ListN.{length, getD}
 use lib.Seq.{length-sets}
 use lib.Signed.{mag}
 use Rattle.laws.proofs.Deciding.{lt-or-le}
-use Rattle.rows.proofs.Sets.{getD-sets-other, getD-sets-in}
+use Rattle.laws.proofs.Sets.{getD-sets-other, getD-sets-in}
 use Rattle.journal.specs.Layout.{fitting, naturalPart}
 use Rattle.steps.specs.SweepDown.{Numbers}
 use Rattle.sweep.specs.Lookup.{narrowed, numbersIn, givenIn}

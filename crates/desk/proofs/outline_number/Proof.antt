@@ -1,5 +1,4 @@
-use mathlib.Core.Path.{_≡_, sym, ap, _∙_}
-use Rattle.desk.specs.Exported.{left, leftBy}
+use Rattle.desk.specs.Exported.{left}
 use borrow.Author.Needs.{needs}
 use Rattle.desk.proofs.outline_number.Statement.{statement}
 use Rattle.desk.proofs.outline_number.Tie as tie
@@ -24,9 +23,12 @@ same-length-4 c = search needs
 
 returns : tie.Need-returns
 returns c =
-    let e = c .before .before .before .before .before .before .before .number .ensures in
-    let n = c .before .before .before .before .before .before .before .number .last in
-    (λ i. left (c .sheet-of .ensures i) (n .1 .0) (n .1 .1 .0) (n .1 .1 .1 .0) (n .1 .1 .1 .1 .0)) ∙ ap leftBy e
+    let n = c .before .before .before .before .before .before .before .number in
+    record {
+      inner = _;
+      promised = n .ensures;
+      same = λ i. left (c .sheet-of .ensures i) (n .last .1 .0) (n .last .1 .1 .0) (n .last .1 .1 .1 .0) (n .last .1 .1 .1 .1 .0);
+    }
 
 pub outline-number-spec : {M : Type 1} → statement M
 outline-number-spec =

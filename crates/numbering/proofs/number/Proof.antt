@@ -1,11 +1,10 @@
-use mathlib.Core.Path.{_≡_, refl, sym, ap, _∙_}
-use native.Mathlib.Omega.{arith}
+use mathlib.Core.Path.{sym, ap, _∙_}
 use denote.Ref.{now}
 use Rattle.sheet.specs.Edges.{edgesIn}
-use Rattle.sheet.specs.Answers.{checked}
 use Rattle.checks.proofs.Passed.{passed}
 use Rattle.numbering.specs.Outcome.{lent, callOf, outcome, afterChecks}
 use Rattle.numbering.proofs.Leaving.{when-refused}
+use Rattle.numbering.proofs.Promising.{promised}
 use borrow.Author.Needs.{needs}
 use Rattle.numbering.proofs.number.Statement.{statement}
 use Rattle.numbering.proofs.number.Tie as tie
@@ -22,11 +21,15 @@ enum-told c = search needs
 number-checked-requires : tie.Need-number-checked-requires
 unfolding edgesIn
 number-checked-requires c κs =
-    let p = passed (callOf (lent (now (c .before .before .before .before .before .before .before .before .before .args .edges)) (now (c .before .before .before .before .before .before .before .before .before .args .polygons)) (now (c .before .before .before .before .before .before .before .before .before .args .sequences)) (now (c .before .before .before .before .before .before .before .before .before .args .journal)) (now (c .before .before .before .before .before .before .before .before .before .args .rows)))) (sym (c .before .before .before .before .before .before .check .ensures) ∙ c .before .before .before .before .enum-told .given .1) in
+    let a = c .before .before .before .before .before .before .before .before .before .args in
+    let p = passed (callOf (lent (now (a .edges)) (now (a .polygons)) (now (a .sequences)) (now (a .journal)) (now (a .rows)))) (sym (c .before .before .before .before .before .before .check .ensures) ∙ c .before .before .before .before .enum-told .given .1) in
     (p .few, p .journal)
 
 returns : tie.Need-returns
-returns c = when-refused (lent (now (c .before .before .before .before .before .before .args .edges)) (now (c .before .before .before .before .before .before .args .polygons)) (now (c .before .before .before .before .before .before .args .sequences)) (now (c .before .before .before .before .before .before .args .journal)) (now (c .before .before .before .before .before .before .args .rows))) _ (sym (c .before .before .before .check .ensures) ∙ c .before .checked .given .1)
+returns c =
+    let a = c .before .before .before .before .before .before .args in
+    let l = lent (now (a .edges)) (now (a .polygons)) (now (a .sequences)) (now (a .journal)) (now (a .rows)) in
+    promised l _ (when-refused l _ (sym (c .before .before .before .check .ensures) ∙ c .before .checked .given .1))
 
 same-length : tie.Need-same-length
 same-length c = search needs
@@ -42,7 +45,10 @@ same-length-4 c = search needs
 
 returns-2 : tie.Need-returns-2
 unfolding outcome
-returns-2 c = c .before .before .before .before .before .before .number-checked .ensures ∙ ap (afterChecks _) (sym (sym (c .before .before .before .before .before .before .before .before .before .before .before .before .before .check .ensures) ∙ c .before .before .before .before .before .before .before .before .before .before .before .enum-told .given .1))
+returns-2 c =
+    let a = c .before .before .before .before .before .before .before .before .before .before .before .before .before .before .before .before .args in
+    let l = lent (now (a .edges)) (now (a .polygons)) (now (a .sequences)) (now (a .journal)) (now (a .rows)) in
+    promised l _ (c .before .before .before .before .before .before .number-checked .ensures ∙ ap (afterChecks l) (sym (sym (c .before .before .before .before .before .before .before .before .before .before .before .before .before .check .ensures) ∙ c .before .before .before .before .before .before .before .before .before .before .before .enum-told .given .1)))
 
 pub number-spec : {M : Type 1} → statement M
 number-spec =
