@@ -4,3 +4,5 @@ pub mod Renamed
 pub mod MatchingDown
 pub mod Running
 pub mod Promising
+pub mod PeakExact
+pub mod Worked

@@ -1,16 +1,17 @@
 -- The slices and the plain tables hold the same: points in the range and their ranks compare alike, a row in the slice looks like the plain row
 -- after each write, and the records written are read back. So the steps on slices end as the steps on plain tables do.
 use mathlib.Core.Path.{_≡_, refl, sym, ap, _∙_}
-use mathlib.Core.Bool.{Bool, true, false}
-use mathlib.Core.Logic.{⊎-elim}
-use mathlib.Core.List.{List}
+use mathlib.Core.Bool.{Bool, true, false, cond}
+use mathlib.Core.Logic.{⊎-elim, inl, inr}
+use mathlib.Core.List.{List, [], _∷_}
 use Prim.Native.Nat.{ℕ, _+_, _*_, _≤_, _<_, max}
 use native.Mathlib.Omega.{arith}
 use lib.Dec.{eqb, ltb}
-use lib.IntN.{ℤ}
-use lib.ListN.{length}
+use lib.IntN.{ℤ, pos}
+use lib.ListN.{length, getD}
 use borrow.Author.Tests.{eq-eqb, ne-eqb}
-use Rattle.laws.proofs.Deciding.{eq-or-ne}
+use Rattle.laws.proofs.Deciding.{eq-or-ne, lt-or-le}
+use Rattle.laws.proofs.Sets.{getD-sets-other, getD-sets-in}
 use Rattle.sheet.specs.declared.Point.{Point}
 use Rattle.sheet.specs.Points.{inRange}
 use Rattle.sheet.specs.Rank.{rank}
@@ -24,7 +25,7 @@ use Rattle.rows.specs.Layout as rows
 use Rattle.rows.specs.Layout.{pointPlaces, lookRow, openedIn, movedIn, finishedIn, freedIn}
 use Rattle.rows.proofs.Writing.{OnlyRow, other-row, opened-only, moved-only, finished-only, freed-only, opened-here, moved-here, finished-here, freed-here}
 use Rattle.journal.specs.Layout as journal
-use Rattle.journal.specs.Layout.{readRecord, writtenIn}
+use Rattle.journal.specs.Layout.{fitting, rowNumber, readRecord, writtenIn}
 use Rattle.journal.proofs.Writing.{Short, ShortChain, length-written, written-here, written-elsewhere}
 
 -- a point and its rank
@@ -38,10 +39,15 @@ pub record HoldsRows (n k : ℕ) (s : List ℤ) (t : ℕ → Row ℕ) : Type 0 w
   pub inside : k ≤ n
   pub row : (r : ℕ) → r < k → AlikeRow Ranked (lookRow s r) (t r)
 
+-- the four numbers of a record
+abbrev pub recordNumbers : Record → List ℤ
+recordNumbers e = pos (fitting (e .level)) ∷ pos (fitting (e .name)) ∷ rowNumber (e .chain) ∷ e .offset ∷ []
+
 -- a slice holds the first k records, and has room for m
 pub record HoldsRecords (m k : ℕ) (s : List ℤ) (j : ℕ → Record) : Type 0 where
   pub long : 4 * m ≤ length s
   pub entry : (i : ℕ) → i < k → readRecord s i ≡ j i
+  pub number : (i q : ℕ) → i < k → q < 4 → getD s (4 * i + q) (pos 0) ≡ getD (recordNumbers (j i)) q (pos 0)
 
 new-alike : (level : ℕ) {p : Point} {q : ℕ} → Ranked p q → AlikeRow Ranked (newRow level p) (newRow level q)
 new-alike level {p} {q} h = record { used = refl; level = refl; branch = λ s. by s }
@@ -91,6 +97,20 @@ short-chain : (c : Chain) {most : ℕ} → most < 2147483648 → SmallChain most
 short-chain (inRow r) l h = omega arith
 short-chain closing l h = tt
 
+put-here : (j : ℕ → Record) (k : ℕ) (e : Record) (i : ℕ) → i ≡ k → put j k e i ≡ e
+put-here j k e i h = ap (λ t. cond t e (j i)) (eq-eqb i k h)
+
+put-there : (j : ℕ → Record) (k : ℕ) (e : Record) (i : ℕ) → (i ≡ k → ⊥) → put j k e i ≡ j i
+put-there j k e i h = ap (λ t. cond t e (j i)) (ne-eqb i k h)
+
+written-number : (s : List ℤ) (k : ℕ) (e : Record) → 4 * k + 4 ≤ length s → (q : ℕ) → q < 4 → getD (writtenIn s k e) (4 * k + q) (pos 0) ≡ getD (recordNumbers e) q (pos 0)
+unfolding writtenIn
+written-number s k e h q l = getD-sets-in (pos 0) (recordNumbers e) s (4 * k) q l h
+
+other-number : (s : List ℤ) (k i : ℕ) (e : Record) → (i ≡ k → ⊥) → (q : ℕ) → q < 4 → getD (writtenIn s k e) (4 * i + q) (pos 0) ≡ getD s (4 * i + q) (pos 0)
+unfolding writtenIn
+other-number s k i e d q l = getD-sets-other (pos 0) (recordNumbers e) s (4 * k) (4 * i + q) (⊎-elim (λ b. inl (omega arith)) (λ b. inr (omega (arith, d))) (lt-or-le i k))
+
 written-holds : {m k : ℕ} {s : List ℤ} {j : ℕ → Record} {entry : Record} {most : ℕ} → most < 2147483648 → HoldsRecords m k s j → k < m → SmallRecord most entry → HoldsRecords m (k + 1) (writtenIn s k entry) (put j k entry)
 written-holds {m} {k} {s} {j} {entry} lm H l h =
     record {
@@ -98,6 +118,10 @@ written-holds {m} {k} {s} {j} {entry} lm H l h =
       entry = λ i u. ⊎-elim
           (λ e. rw (eq-eqb i k e, e) (written-here s k entry (omega (arith, H .long)) (record { level = omega (arith, h .level); name = omega (arith, h .name); chain = short-chain (entry .chain) lm (h .chain) })))
           (λ d. rw (ne-eqb i k d, written-elsewhere s k entry i d) (H .entry i (omega (arith, d))))
+          (eq-or-ne i k);
+      number = λ i q u v. ⊎-elim
+          (λ e. ap (λ x. getD (writtenIn s k entry) (4 * x + q) (pos 0)) e ∙ written-number s k entry (omega (arith, H .long)) q v ∙ sym (ap (λ r. getD (recordNumbers r) q (pos 0)) (put-here j k entry i e)))
+          (λ d. other-number s k i entry d q v ∙ H .number i q (omega (arith, d)) v ∙ sym (ap (λ r. getD (recordNumbers r) q (pos 0)) (put-there j k entry i d)))
           (eq-or-ne i k);
     }
 

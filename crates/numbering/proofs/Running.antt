@@ -35,6 +35,13 @@ use Rattle.numbering.proofs.Matching.{Ranked, HoldsRows, HoldsRecords, 
 use Rattle.numbering.proofs.MatchingDown.{HoldsNumbers, HoldsAnswers, matched-down, fitting}
 use Rattle.numbering.proofs.Renamed.{numbering-same}
 
+-- any rows and records to begin with
+abbrev pub anyRows : ℕ → Row ℕ
+anyRows r = newRow 0 0
+
+abbrev pub anyRecords : ℕ → Record
+anyRecords k = record { level = 0; name = 0; chain = closing; offset = pos 0 }
+
 natural-same : (z : ℤ) → naturalPart z ≡ natural z
 unfolding naturalPart
 natural-same (pos n) = refl
@@ -73,13 +80,6 @@ module _ (l : Lent) (ok : checked (callOf l) ≡ Passed) where
   unfolding sheetOf
   few = all .few
 
-  -- any rows and records to begin with
-  abbrev anyRows : ℕ → Row ℕ
-  anyRows r = newRow 0 0
-
-  abbrev anyRecords : ℕ → Record
-  anyRecords k = record { level = 0; name = 0; chain = closing; offset = pos 0 }
-
   abbrev plain : Sweep (ℕ → Row ℕ) (ℕ → Record)
   plain = swept sheet rows records anyRows anyRecords
 
@@ -90,7 +90,7 @@ module _ (l : Lent) (ok : checked (callOf l) ≡ Passed) where
   same-start =
       record {
         rows = record { long = omega arith; inside = omega arith; row = λ r h. absurd (omega arith) };
-        journal = record { long = omega arith; entry = λ i h. absurd (omega arith) };
+        journal = record { long = omega arith; entry = λ i h. absurd (omega arith); number = λ i q h u. absurd (omega arith) };
         records = refl;
         peak = refl;
         end = refl;
@@ -166,3 +166,24 @@ module _ (l : Lent) (ok : checked (callOf l) ≡ Passed) where
   -- demand 3: rows that are always enough
   pub enough : (polygon sequence : ℕ → ℕ) (polygons : ℕ) → Numbering sheet polygon sequence polygons → (c : ℕ) → Enough sheet polygon c → c ≤ rowsIn (l .rows) → sweptUp (inJournal l) .state .end ≡ Done
   enough polygon sequence polygons N c e h = same-end ∙ results.enough-done (all .sheet) few rows records enough-records anyRows anyRecords polygon (N .shared) c e h
+
+  -- the plain run tells how the call ended
+  pub record RunsAs : Type 0 where
+    pub end : sweptUp (inJournal l) .state .end ≡ swept (sheetOf (l .list)) (rowsIn (l .rows)) (recordsIn (inJournal l .journal)) anyRows anyRecords .state .end
+    pub peak : sweptUp (inJournal l) .state .peak ≡ swept (sheetOf (l .list)) (rowsIn (l .rows)) (recordsIn (inJournal l .journal)) anyRows anyRecords .state .peak
+    pub records : sweptUp (inJournal l) .state .records ≡ swept (sheetOf (l .list)) (rowsIn (l .rows)) (recordsIn (inJournal l .journal)) anyRows anyRecords .state .records
+    pub holds : HoldsRecords (recordsIn (inJournal l .journal)) (sweptUp (inJournal l) .state .records) (sweptUp (inJournal l) .state .journal) (swept (sheetOf (l .list)) (rowsIn (l .rows)) (recordsIn (inJournal l .journal)) anyRows anyRecords .state .journal)
+    pub kept : sweptUp (inJournal l) .state .records ≤ recordsIn (inJournal l .journal)
+
+  pub runs-as : RunsAs
+  runs-as = record { end = alike .state .end; peak = alike .state .peak; records = alike .state .records; holds = alike .state .journal; kept = alike .state .kept }
+
+  -- both lists are one number an edge long
+  pub lists-long : (done : sweptUp (inJournal l) .state .end ≡ Done) → (length (readDown (inJournal l) (sweptUp (inJournal l)) .answers .polygons) ≡ edgesIn (l .list)) × (length (readDown (inJournal l) (sweptUp (inJournal l)) .answers .sequences) ≡ edgesIn (l .list))
+  lists-long done = same-read done .answers .long
+
+  pub enough-room : 2 * sheetOf (l .list) .edges ≤ recordsIn (inJournal l .journal)
+  enough-room = enough-records
+
+  pub few-edges : sheetOf (l .list) .edges ≤ 4096
+  few-edges = few

@@ -6,3 +6,4 @@ pub mod Checked
 pub mod Leads
 pub mod Outlines
 pub mod OneNumbering
+pub mod Trying
