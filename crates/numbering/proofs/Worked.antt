@@ -1,6 +1,6 @@
 -- The sheets of document 01 that are marked there, worked by the numbering's own definition: one table, one test that is computed over all of it.
 -- With three of them, engines that cannot keep the promise: for each a short refutation.
-use Prim.Native.Nat.{ℕ, _*_, _/_}
+use Prim.Native.Nat.{ℕ, _*_, _/_, _≤_}
 use mathlib.Core.Path.{_≡_, refl, sym, ap, _∙_}
 use mathlib.Core.Bool.{Bool, true, false, _&&_}
 use mathlib.Core.List.{List, [], _∷_, map}
@@ -15,6 +15,9 @@ use Rattle.sheet.specs.declared.Refusal.{Refusal}
 use Rattle.sheet.specs.Points as points
 use Rattle.sheet.specs.Rank as ranks
 use Rattle.sheet.specs.Edges as edges
+use Rattle.sheet.specs.Edges.{sheetOf, topHeight}
+use Rattle.sheet.specs.Passing as passings
+use Rattle.sheet.specs.Passing.{passing, Most}
 use Rattle.sheet.specs.Kinds as kinds
 use Rattle.sheet.specs.Answers as answers
 use Rattle.sheet.specs.Answers.{numberOf, placeOf}
@@ -110,6 +113,10 @@ sheets =
     ∷ refused (5 ∷ 5 ∷ 5 ∷ 5 ∷ []) 1 6 0 (77 ∷ [])
     ∷ []
 
+-- the top of the triangle's first edge
+trianglePlace : ℕ
+trianglePlace = topHeight (sheetOf (lentFor one-triangle .list)) 0
+
 -- all of the table, and of three sheets what the refutations below need
 record AllWorked : Type 0 where
   right-all : allRight sheets ≡ true
@@ -119,6 +126,7 @@ record AllWorked : Type 0 where
   untouched-triangle : lentFor one-triangle .polygons ≡ 77 ∷ 77 ∷ 77 ∷ []
   lists-of-touching : outcome (lentFor touching) .polygons ≡ 2 ∷ 2 ∷ 1 ∷ 2 ∷ 2 ∷ 1 ∷ 1 ∷ []
   of-touching : outcome (lentFor touching) .answer ≡ Accepted 2 4 11
+  passing-triangle : passing (sheetOf (lentFor one-triangle .list)) trianglePlace ≡ 2
 
 all-worked : AllWorked
 unfolding
@@ -132,6 +140,8 @@ unfolding
     empty
     one-triangle
     touching
+    trianglePlace
+    passings.passing
     counting.count
     counting.some-below
     counting.first
@@ -220,6 +230,7 @@ all-worked =
       untouched-triangle = refl;
       lists-of-touching = refl;
       of-touching = refl;
+      passing-triangle = refl;
     }
 
 -- engines that cannot keep the promise
@@ -253,13 +264,16 @@ module _ (engine : Lent → Left) (keeps : (l : Lent) → Promised l (engine l))
       let z : _≡_ {A = ℕ} 2 1 = sym (ap (λ l. getD l 0 0) e) ∙ f (lentFor touching) ∙ ap (λ l. getD l 2 0) e in
       omega arith
 
-  -- one that invents a peak
-  invents-a-peak : (k : ℕ) → ((l : Lent) → (p : ℕ) × (m : ℕ) × (engine l .answer ≡ Accepted p k m)) → ⊥
+  -- one that has the same peak for all it accepts: 0, or any other
+  invents-a-peak : (k : ℕ) → ((l : Lent) (p j m : ℕ) → engine l .answer ≡ Accepted p j m → j ≡ k) → ⊥
   invents-a-peak k f =
-      let u = f (lentFor one-triangle) in
-      let v = f (lentFor touching) in
-      let a : Accepted (u .0) k (u .1) ≡ Accepted 1 1 4 = sym (u .2) ∙ ap (λ x. x .answer) (keeps (lentFor one-triangle) .outcome-is) ∙ all-worked .of-triangle in
-      let b : Accepted (v .0) k (v .1) ≡ Accepted 2 4 11 = sym (v .2) ∙ ap (λ x. x .answer) (keeps (lentFor touching) .outcome-is) ∙ all-worked .of-touching in
-      let y : _≡_ {A = ℕ} k 1 = cc in
-      let z : _≡_ {A = ℕ} k 4 = cc in
+      let a : 1 ≡ k = f (lentFor one-triangle) 1 1 4 (ap (λ x. x .answer) (keeps (lentFor one-triangle) .outcome-is) ∙ all-worked .of-triangle) in
+      let b : 4 ≡ k = f (lentFor touching) 2 4 11 (ap (λ x. x .answer) (keeps (lentFor touching) .outcome-is) ∙ all-worked .of-touching) in
       omega arith
+
+  -- one that gives C for the peak: two edges pass the triangle's places, and it needs one row
+  C-for-the-peak : ((l : Lent) (p j m : ℕ) → engine l .answer ≡ Accepted p j m → Most (passing (sheetOf (l .list))) j) → ⊥
+  C-for-the-peak f =
+      let most = f (lentFor one-triangle) 1 1 4 (ap (λ x. x .answer) (keeps (lentFor one-triangle) .outcome-is) ∙ all-worked .of-triangle) in
+      let a : passing (sheetOf (lentFor one-triangle .list)) trianglePlace ≤ 1 = most .bound trianglePlace in
+      omega (arith, a, all-worked .passing-triangle)

@@ -11,7 +11,8 @@ type Point = (i32, i32);
 /// C is the most edges that pass any one point; an edge passes a point when its
 /// lower end is below that point and its higher end is not. With L the number
 /// of edges of the longest outline, C times the whole part of log2 L rows are
-/// always enough. Before the list is numbered L is not known, but no outline
+/// always enough: the engine's contract says so, and it is proved (the clause
+/// `enough-rows` in crates/numbering/specs/Promised.antt). Before the list is numbered L is not known, but no outline
 /// has more edges than the list, and a greater L only makes the product
 /// greater. So the number is never too small. It may be larger than needed:
 /// [`Answer::Accepted`] gives the peak, with which the same list is accepted
