@@ -1,5 +1,5 @@
--- The test of a tip, number by number: a row that the slice has passes `hasTip` where its first number is the level and 1, its branch's length number is
--- not below 0, and its tip is at the place. The code leaves at the first of these that fails, so each way out decides the whole test.
+-- The test of a tip, number by number: a row that the slice has passes `hasTip` where its tip is at the place, its branch's length number is not below
+-- 0, and its first number is the level and 1. The code leaves at the first of these that fails, so each way out decides the whole test.
 use mathlib.Core.Path.{_≡_, refl, sym, ap, _∙_}
 use mathlib.Core.Bool.{Bool, true, false, not, _&&_}
 use mathlib.Core.Logic.{⊎-elim}
@@ -16,7 +16,7 @@ use borrow.Author.Tests.{lt-ltb, le-leb, eq-eqb, ne-eqb}
 use Rattle.laws.proofs.Deciding.{eq-or-ne}
 use Rattle.sheet.specs.declared.Point.{Point}
 use Rattle.sheet.specs.Points.{sameZ, isSame}
-use Rattle.sheet.proofs.Signed.{read-back, bits-same, sameZ-yes, sameZ-no}
+use Rattle.sheet.proofs.Signed.{read-back, bits-sameZ}
 use Rattle.steps.specs.declared.Side.{Side}
 use Rattle.steps.specs.declared.Side.the-variants.{Rising, Falling}
 use Rattle.steps.specs.SweepUp.{hasTip}
@@ -26,6 +26,10 @@ use Rattle.rows.proofs.Signs.{plain-read, below-zero}
 pub and-false : (a : Bool) → (a && false) ≡ false
 and-false true = refl
 and-false false = refl
+
+pub and-true : (a : Bool) → (a && true) ≡ a
+and-true true = refl
+and-true false = refl
 
 pub not-not : (a : Bool) → not (not a) ≡ a
 not-not true = refl
@@ -63,26 +67,25 @@ module _ (s : List ℤ) (r level : ℕ) (side : Side) (tip : Point) (has : HasRo
   tip-test Rising = rw (le-leb (8 * r + 8) (length s) has) (simp (not-not, and-assoc, level-number))
   tip-test Falling = rw (le-leb (8 * r + 8) (length s) has) (simp (not-not, and-assoc, level-number))
 
-  pub other-level : level < 2147483647 → (ofZ w32 (getD s (8 * r) (pos 0)) ≡ ofZ w32 (toZ w32 level +ℤ pos 1) → ⊥) →
-      false ≡ hasTip pointPlaces level side tip (lookRow s r)
-  unfolding byNumbers
-  other-level hl d = rw (tip-test side, sameZ-no (getD s (8 * r) (pos 0)) (pos (level + 1)) (λ e. d (ap (ofZ w32) (e ∙ sym (mark-is level hl)))))
-
-  module _ (b : ℕ) (at : b ≡ branchAt side r) (f : mag (getD s (b + 2) (pos 0)) < 2147483648) where
+  module _ (b : ℕ) (at : b ≡ branchAt side r) where
     test-at : hasTip pointPlaces level side tip (lookRow s r) ≡ byNumbers b
     test-at = tip-test side ∙ ap byNumbers (sym at)
 
-    sign : (t : Bool) → ltZ (toZ w32 (ofZ w32 (getD s (b + 2) (pos 0)))) (pos 0) ≡ t → nonNeg (getD s (b + 2) (pos 0)) ≡ not t
-    sign t h = sym (not-not _) ∙ ap not (sym (below-zero (getD s (b + 2) (pos 0))) ∙ (rw (read-back (getD s (b + 2) (pos 0)) f) at h))
-
-    pub finished-there : ltZ (toZ w32 (ofZ w32 (getD s (b + 2) (pos 0)))) (pos 0) ≡ true → false ≡ hasTip pointPlaces level side tip (lookRow s r)
+    pub other-tip : isSame (record { x = getD s b (pos 0); y = getD s (b + 1) (pos 0) }) tip ≡ false → false ≡ hasTip pointPlaces level side tip (lookRow s r)
     unfolding byNumbers
-    finished-there h = rw (test-at, sign true h) (sym (simp and-false))
+    other-tip e = rw (test-at, e) (sym (simp and-false))
 
-    pub tip-decides : level < 2147483647 → mag (getD s (8 * r) (pos 0)) < 2147483648 →
-        ofZ w32 (getD s (8 * r) (pos 0)) ≡ ofZ w32 (toZ w32 level +ℤ pos 1) → ltZ (toZ w32 (ofZ w32 (getD s (b + 2) (pos 0)))) (pos 0) ≡ false →
-        isSame (record { x = getD s b (pos 0); y = getD s (b + 1) (pos 0) }) tip ≡ hasTip pointPlaces level side tip (lookRow s r)
-    unfolding byNumbers
-    tip-decides hl f0 e0 h =
-        let l = sameZ-yes (getD s (8 * r) (pos 0)) (pos (level + 1)) (bits-same _ (pos (level + 1)) f0 (omega arith) (e0 ∙ ap (ofZ w32) (mark-is level hl))) in
-        rw (test-at, l, sign false h)
+    module _ (f : mag (getD s (b + 2) (pos 0)) < 2147483648) where
+      sign : (t : Bool) → ltZ (toZ w32 (ofZ w32 (getD s (b + 2) (pos 0)))) (pos 0) ≡ t → nonNeg (getD s (b + 2) (pos 0)) ≡ not t
+      sign t h = sym (not-not _) ∙ ap not (sym (below-zero (getD s (b + 2) (pos 0))) ∙ (rw (read-back (getD s (b + 2) (pos 0)) f) at h))
+
+      pub finished-there : ltZ (toZ w32 (ofZ w32 (getD s (b + 2) (pos 0)))) (pos 0) ≡ true → false ≡ hasTip pointPlaces level side tip (lookRow s r)
+      unfolding byNumbers
+      finished-there h = rw (test-at, sign true h) (sym (simp and-false))
+
+      pub level-decides : level < 2147483647 → mag (getD s (8 * r) (pos 0)) < 2147483648 →
+          isSame (record { x = getD s b (pos 0); y = getD s (b + 1) (pos 0) }) tip ≡ true → ltZ (toZ w32 (ofZ w32 (getD s (b + 2) (pos 0)))) (pos 0) ≡ false →
+          eqb (ofZ w32 (getD s (8 * r) (pos 0))) (ofZ w32 (toZ w32 level +ℤ pos 1)) ≡ hasTip pointPlaces level side tip (lookRow s r)
+      unfolding byNumbers
+      level-decides hl f0 e h =
+          rw (test-at, sign false h, e, and-true, mark-is level hl) (bits-sameZ (getD s (8 * r) (pos 0)) (pos (level + 1)) f0 (omega arith))

@@ -36,31 +36,32 @@ fn branch_at(rows: &[i32], r: usize, side: Side) -> usize
     }
 }
 
-// Whether a tip with these coordinates is at the place: y is looked at first.
+// Whether a tip with these coordinates is at the place. Tips of a sweep stand at few heights, so x tells them apart sooner and is looked at first.
 fn is_at(x: i32, y: i32, place: Point) -> bool
     ensures { λ t. ⌜ t ≡ isSame (record { x = x; y = y }) place ⌝ }
 {
     let place_x = place.x;
     let place_y = place.y;
-    if y != place_y {
+    if x != place_x {
         return false;
     }
-    x == place_x
+    y == place_y
 }
 
-// Whether a row is of the level, and its branch on the side is unfinished with its tip at the place.
+// Whether a row is of the level, and its branch on the side is unfinished with its tip at the place. The tip is looked at first: it is nearly always
+// another one, so the way that the search takes past a row can be foreseen.
 fn has_tip(rows: &[i32], r: usize, level: u32, side: Side, tip: Point) -> bool
     requires { ⌜ HasRow (now rows) r × (level < 2147483647) ⌝ }
     ensures { λ t. ⌜ t ≡ hasTip pointPlaces level side tip (lookRow (now (rows .entry)) r) ⌝ }
 {
-    if rows[NUMBERS * r] != level as i32 + 1 {
+    let b = branch_at(rows, r, side);
+    if !is_at(rows[b], rows[b + 1], tip) {
         return false;
     }
-    let b = branch_at(rows, r, side);
     if rows[b + 2] < 0 {
         return false;
     }
-    is_at(rows[b], rows[b + 1], tip)
+    rows[NUMBERS * r] == level as i32 + 1
 }
 
 // The first row below the peak with such a tip.
