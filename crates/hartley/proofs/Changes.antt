@@ -19,7 +19,7 @@ use Rattle.steps.specs.SweepUp.{State, hasTip, signed, mostLength}
 use Rattle.steps.specs.Plain as plain
 use Rattle.steps.specs.Plain.{plainTable, plainJournal, newRow, freeRow}
 use Rattle.hartley.specs.Swept.{placesOf, roomOf}
-use Rattle.hartley.proofs.Lowest.{lowest-is}
+use Rattle.laws.proofs.Lowest.{lowest-is}
 use Rattle.hartley.proofs.Down.{Rec, put, close, ofRow, nameAt}
 use Rattle.hartley.proofs.Reading.{recs, recs-written}
 use Rattle.hartley.proofs.Tables.{Table}

@@ -5,7 +5,7 @@ use mathlib.Core.Path.{_≡_, refl, ap, sym, _∙_}
 use mathlib.Core.List.{List, _∷_}
 use Prim.Native.Nat.{ℕ, zero, suc, _+_, _-_, _*_, _≤_, _<_}
 use native.Mathlib.Omega.{arith}
-use lib.IntN.{ℤ, pos, _+ℤ_, +ℤ-assoc}
+use lib.IntN.{pos, _+ℤ_, +ℤ-assoc}
 use Rattle.steps.specs.Rows.{Chain, inRow, closing, Record}
 use Rattle.steps.specs.SweepDown.{Numbers, Reading, readRecord, sweepDown}
 use Rattle.steps.specs.Plain.{plainTables, plainJournal}

@@ -1,4 +1,4 @@
-pub mod Lowest
+-- The theory of the steps, from the ground up; Results is what other crates cite.
 pub mod Puts
 pub mod Peak
 pub mod Plan
@@ -39,7 +39,6 @@ pub mod EdgeInHand
 pub mod Treating
 pub mod Sweeping
 pub mod Ended
-pub mod Between
 pub mod Numbers
 pub mod Holding
 pub mod Enough

@@ -18,7 +18,7 @@ use Rattle.steps.specs.declared.End.the-variants.{Done, NoFreeRow, Overrun}
 use Rattle.steps.specs.Rows.{otherSide, Edge, closing, Places, Table, Journal, Room}
 use Rattle.steps.specs.SweepUp as up
 use Rattle.steps.specs.SweepUp.{State, Sweep, asEdge, bothFinished, levels, mostLength}
-use Rattle.hartley.proofs.Lowest.{lowest-is}
+use Rattle.laws.proofs.Lowest.{lowest-is}
 
 module _ {P T J : Type 0} (places : Places P) (table : Table P T) (journal : Journal J) (records : ℕ) where
   abbrev room : ℕ → Room P T J

@@ -3,7 +3,7 @@
 use mathlib.Core.Path.{_≡_}
 use mathlib.Core.Bool.{false}
 use mathlib.Core.Logic.{_⊎_, ⊎-elim}
-use Prim.Native.Nat.{ℕ, suc, _+_, _*_, _≤_, _<_, max}
+use Prim.Native.Nat.{ℕ, _+_, _*_, _≤_, _<_, max}
 use native.Mathlib.Omega.{arith}
 use lib.IntN.{pos}
 use Rattle.laws.proofs.Deciding.{lt-or-le}
@@ -18,11 +18,10 @@ use Rattle.steps.specs.SweepUp.{Sweep, start}
 use Rattle.steps.specs.SweepDown.{Numbers, Reading}
 use Rattle.steps.specs.Plain.{newRow, plainTable, plainJournal, plainTables}
 use Rattle.steps.proofs.AlikeDown.{Holding, AllHeld}
-use Rattle.hartley.specs.Swept.{placesOf, edgeOf, sweptTo, swept, readDown, natural}
+use Rattle.hartley.specs.Swept.{placesOf, edgeOf, swept, readDown, natural}
 use Rattle.hartley.proofs.Peak.{sweep-cut}
 use Rattle.hartley.proofs.Setting.{Setting}
-use Rattle.hartley.proofs.Ended.{Finished, sweep-ends, when-done, when-refused}
-use Rattle.hartley.proofs.Between.{SmallState, small-between}
+use Rattle.hartley.proofs.Ended.{Finished, sweep-ends, when-done}
 use Rattle.hartley.proofs.Numbers.{later-first, gives-numbering, sequence-natural, records-few}
 use Rattle.hartley.proofs.Holding.{Fits, all-held}
 use Rattle.hartley.proofs.Enough.{twelve-each, enough-rows}
@@ -38,13 +37,6 @@ module _ {sh : Sheet} (K : Checked sh) (few : sh .edges ≤ 4096) (rows records 
   -- the sweep up ends done or without a free row, never in an overrun
   pub up-ends : (up .state .end ≡ Done) ⊎ (up .state .end ≡ NoFreeRow)
   up-ends = sweep-ends A t j
-
-  -- how large the state is after each edge of the list, while the sweep is done
-  pub small-after : (i : ℕ) → i < sh .edges → sweptTo sh rows records t j (suc i) .state .end ≡ Done → SmallState sh rows (sweptTo sh rows records t j (suc i) .state)
-  small-after = small-between A t j
-
-  pub empty-done : sh .edges ≡ 0 → up .state .end ≡ Done
-  empty-done z = ⊎-elim (λ d. d) (λ d. let w = when-refused A t j d in absurd (omega (arith, w .1))) up-ends
 
   module _ (done : up .state .end ≡ Done) where
     F : Finished A (up .state)

@@ -1,1 +1,2 @@
+-- The runs that the theory speaks of.
 pub mod Swept

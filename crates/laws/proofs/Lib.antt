@@ -1,6 +1,8 @@
+-- The laws that other crates may cite.
 pub mod Deciding
 pub mod Counting
 pub mod First
+pub mod Lowest
 pub mod Pigeonhole
 pub mod Largest
 pub mod Tests

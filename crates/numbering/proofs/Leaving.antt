@@ -1,9 +1,9 @@
 -- What the two sweeps leave is what the outcome says, for each way out; and the numbers answered fit 32 bits, since no list has more than 4,096 edges
 -- and its journal no more than 8,192 records.
-use mathlib.Core.Path.{_≡_, refl, sym, ap, _∙_, subst}
+use mathlib.Core.Path.{_≡_, refl, sym, ap, _∙_}
 use mathlib.Core.Bool.{Bool, true, false, cond}
 use mathlib.Core.List.{List, _++_, []}
-use Prim.Native.Nat.{ℕ, zero, suc, _+_, _-_, _*_, _/_, _≤_, _<_}
+use Prim.Native.Nat.{ℕ, _+_, _-_, _*_, _≤_}
 use native.Mathlib.Omega.{arith}
 use lib.Dec.{eqb}
 use lib.IntN.{ℤ, pos}
@@ -22,14 +22,14 @@ use Rattle.sheet.specs.Answers.{Call, checked, numberOf, zeros}
 use Rattle.checks.proofs.AnswerSheet.{Row, row-1, row-2, row-3, row-4, row-5, row-6, row-7, row-8, row-9, no-row, row}
 use Rattle.steps.specs.declared.End.{End}
 use Rattle.steps.specs.declared.End.the-variants.{Done, NoFreeRow, Overrun}
-use Rattle.steps.specs.SweepUp.{Sweep, sweepUp, listEdge, start}
-use Rattle.steps.specs.SweepDown.{Reading, sweepDown}
+use Rattle.steps.specs.SweepUp.{listEdge, start}
+use Rattle.steps.specs.SweepDown.{sweepDown}
 use Rattle.steps.proofs.Bounded.{Within, sweep-within, edge-within, polygons-within}
-use Rattle.journal.specs.Layout.{slices, recordsIn}
+use Rattle.journal.specs.Layout.{slices}
 use Rattle.sweep.specs.declared.Swept.{Swept}
 use Rattle.sweep.specs.Slices.{room, roomOf, swept, isDone}
-use Rattle.sweep.specs.Lookup.{Answers, tables, reading}
-use Rattle.numbering.specs.Outcome.{Lent, Left, lent, left, sweptUp, readDown, afterSweep, sweeps, inJournal, wholeJournal, afterChecks, callOf, outcome}
+use Rattle.sweep.specs.Lookup.{tables, reading}
+use Rattle.numbering.specs.Outcome.{Lent, left, sweptUp, readDown, afterSweep, sweeps, inJournal, wholeJournal, afterChecks, callOf, outcome}
 
 pub is-done-end : (u : End) → isDone u ≡ true → u ≡ Done
 is-done-end Done h = refl

@@ -1,3 +1,4 @@
+-- How the outcome keeps the promise, and laws about it.
 pub mod Matching
 pub mod Leaving
 pub mod Renamed

@@ -1,7 +1,7 @@
 -- The slices and the plain tables hold the same: points in the range and their ranks compare alike, a row in the slice looks like the plain row
 -- after each write, and the records written are read back. So the steps on slices end as the steps on plain tables do.
 use mathlib.Core.Path.{_≡_, refl, sym, ap, _∙_}
-use mathlib.Core.Bool.{Bool, true, false, cond}
+use mathlib.Core.Bool.{true, false, cond}
 use mathlib.Core.Logic.{⊎-elim, inl, inr}
 use mathlib.Core.List.{List, [], _∷_}
 use Prim.Native.Nat.{ℕ, _+_, _*_, _≤_, _<_, max}
@@ -18,7 +18,7 @@ use Rattle.sheet.specs.Rank.{rank}
 use Rattle.sheet.proofs.Ranks.{rank-below, rank-same}
 use Rattle.steps.specs.declared.Side.{Side}
 use Rattle.steps.specs.declared.Side.the-variants.{Rising, Falling}
-use Rattle.steps.specs.Rows.{Both, on, with, Branch, Row, Chain, inRow, closing, Record, Room}
+use Rattle.steps.specs.Rows.{on, with, Branch, Row, Chain, inRow, closing, Record, Room}
 use Rattle.steps.specs.Plain.{put, newRow, withBranch, finishedBranch, freeRow, plainTable, plainJournal}
 use Rattle.steps.proofs.Alike.{AlikeBranch, AlikeRow, SmallChain, SmallRecord, Match}
 use Rattle.rows.specs.Layout as rows
@@ -26,7 +26,7 @@ use Rattle.rows.specs.Layout.{pointPlaces, lookRow, openedIn, movedIn, finished
 use Rattle.rows.proofs.Writing.{OnlyRow, other-row, opened-only, moved-only, finished-only, freed-only, opened-here, moved-here, finished-here, freed-here}
 use Rattle.journal.specs.Layout as journal
 use Rattle.journal.specs.Layout.{fitting, rowNumber, readRecord, writtenIn}
-use Rattle.journal.proofs.Writing.{Short, ShortChain, length-written, written-here, written-elsewhere}
+use Rattle.journal.proofs.Writing.{ShortChain, length-written, written-here, written-elsewhere}
 
 -- a point and its rank
 pub record Ranked (p : Point) (q : ℕ) : Type 0 where

@@ -1,16 +1,16 @@
 -- The look-up table in the rows' slice and the two answer lists hold what the plain tables hold, as long as the numbers given fit: rows that are lent,
 -- edges of the list, polygons and sequence numbers of few bits.
-use mathlib.Core.Path.{_≡_, refl, sym, ap, _∙_}
+use mathlib.Core.Path.{_≡_, sym, _∙_}
 use mathlib.Core.Logic.{⊎-elim}
 use mathlib.Core.List.{List}
-use Prim.Native.Nat.{ℕ, _+_, _*_, _≤_, _<_}
+use Prim.Native.Nat.{ℕ, _*_, _≤_, _<_}
 use native.Mathlib.Omega.{arith}
-use lib.IntN.{ℤ, pos, negsuc}
-use lib.ListN.{length, getD, set, length-set}
+use lib.IntN.{ℤ, pos}
+use lib.ListN.{length, getD, length-set}
 use lib.Seq.{getD-set-same, getD-set-other}
 use borrow.Author.Tests.{eq-eqb, ne-eqb}
 use Rattle.laws.proofs.Deciding.{eq-or-ne}
-use Rattle.steps.specs.SweepDown.{Numbers, Tables}
+use Rattle.steps.specs.SweepDown.{Numbers}
 use Rattle.steps.specs.Plain.{put, plainTables}
 use Rattle.steps.proofs.AlikeDown.{Holding, MatchDown}
 use Rattle.journal.specs.Layout.{naturalPart}

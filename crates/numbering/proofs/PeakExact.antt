@@ -1,6 +1,6 @@
 -- The peak that a call answers is exact: lent that many rows or more, a call on the same list with the same other slices answers the same and leaves the
 -- same numbers and the same journal; lent fewer, it is refused for want of a row. What the two row tables hold before does not matter.
-use mathlib.Core.Path.{_≡_, refl, sym, ap, _∙_, subst}
+use mathlib.Core.Path.{_≡_, sym, ap, _∙_, subst}
 use mathlib.Core.Logic.{_⊎_, ⊎-elim}
 use mathlib.Core.List.{List}
 use Prim.Native.Nat.{ℕ, _+_, _*_, _/_, _%_, _≤_, _<_}
@@ -13,7 +13,7 @@ use Rattle.sheet.specs.declared.Answer.the-variants as answer
 use Rattle.sheet.specs.declared.Answer.the-variants.{Accepted}
 use Rattle.sheet.specs.declared.Check.the-variants as check
 use Rattle.sheet.specs.declared.Refusal.the-variants.{NoRow}
-use Rattle.sheet.specs.Edges.{edgesIn, sheetOf}
+use Rattle.sheet.specs.Edges.{sheetOf}
 use Rattle.sheet.specs.Answers.{checked, followedByZeros}
 use Rattle.sheet.proofs.OneNumbering.{same-polygon, same-sequence, same-polygons}
 use Rattle.checks.proofs.Passed.{passed}
@@ -25,8 +25,8 @@ use Rattle.steps.specs.SweepUp.{Sweep}
 use Rattle.hartley.specs.Swept.{swept}
 use Rattle.hartley.proofs.Results as results
 use Rattle.numbering.specs.Outcome.{Lent, Left, callOf, inJournal, sweptUp, readDown, accepted, wholeJournal, outcome}
-use Rattle.numbering.proofs.Matching.{HoldsRecords, recordNumbers}
-use Rattle.numbering.proofs.Running.{anyRows, anyRecords, numbers, runs-as, lists-long, enough-room, few-edges, no-overrun}
+use Rattle.numbering.proofs.Matching.{HoldsRecords}
+use Rattle.numbering.proofs.Running.{anyRows, anyRecords, numbers, runs-as, lists-long, enough-room, few-edges}
 use Rattle.numbering.proofs.Promising.{Way, at-checks, done, no-row, way}
 
 -- the same call with another row table

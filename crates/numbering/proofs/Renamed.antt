@@ -1,10 +1,9 @@
 -- A numbering depends only on the numbers that the edges of the list have.
 use mathlib.Core.Path.{_≡_, sym, ap, _∙_}
 use mathlib.Core.Logic.{_⊎_, inl, inr, ⊎-elim}
-use Prim.Native.Nat.{ℕ, suc, _≤_, _<_}
+use Prim.Native.Nat.{ℕ, suc, _<_}
 use native.Mathlib.Omega.{arith}
 use Rattle.sheet.specs.Edges.{Sheet}
-use Rattle.sheet.specs.Joining.{Follows}
 use Rattle.sheet.specs.Numbering.{Numbering}
 
 module _ {sh : Sheet} {polygon sequence polygon′ sequence′ : ℕ → ℕ} {polygons : ℕ} (p : (e : ℕ) → e < sh .edges → polygon′ e ≡ polygon e) (q : (e : ℕ) → e < sh .edges → sequence′ e ≡ sequence e) (A : Numbering sh polygon sequence polygons) where

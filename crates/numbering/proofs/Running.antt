@@ -1,33 +1,30 @@
 -- A call that passed its checks, on the slices and on plain tables: the two runs end alike, so what crates/hartley shows of the plain run holds of what
 -- the call answers and leaves.
-use mathlib.Core.Path.{_≡_, refl, sym, ap, _∙_}
-use mathlib.Core.Bool.{Bool, true, false}
+use mathlib.Core.Path.{_≡_, refl, sym, _∙_}
 use mathlib.Core.Logic.{_⊎_, inl, inr, ⊎-elim}
 use mathlib.Core.List.{List}
-use Prim.Native.Nat.{ℕ, _+_, _*_, _/_, _≤_, _<_}
+use Prim.Native.Nat.{ℕ, _+_, _*_, _≤_, _<_}
 use native.Mathlib.Omega.{arith}
 use lib.IntN.{ℤ, pos, negsuc}
-use lib.ListN.{length, getD, take}
+use lib.ListN.{length, getD}
 use lib.Seq.{length-take-le}
 use Rattle.sheet.specs.declared.Check.the-variants.{Passed}
 use Rattle.sheet.specs.Edges.{Sheet, edgeAt, edgesIn, sheetOf}
 use Rattle.sheet.specs.Numbering.{Numbering}
 use Rattle.sheet.specs.Passing.{Enough}
 use Rattle.sheet.specs.Answers.{checked}
-use Rattle.sheet.specs.Joining.{Follows}
 use Rattle.checks.proofs.Passed.{AllPassed, passed}
-use Rattle.steps.specs.declared.End.{End}
-use Rattle.steps.specs.declared.End.the-variants.{Done, NoFreeRow, Overrun}
-use Rattle.steps.specs.Rows.{Row, Record, closing, Room}
-use Rattle.steps.specs.SweepUp.{State, Sweep, sweepUp, listEdge, start}
-use Rattle.steps.specs.SweepDown.{Numbers, Reading, sweepDown}
+use Rattle.steps.specs.declared.End.the-variants.{Done, NoFreeRow}
+use Rattle.steps.specs.Rows.{Row, Record, closing}
+use Rattle.steps.specs.SweepUp.{Sweep, listEdge, start}
+use Rattle.steps.specs.SweepDown.{Numbers, Reading}
 use Rattle.steps.specs.Plain.{newRow, plainTables, plainJournal}
 use Rattle.steps.proofs.Alike.{Match, Alike, AlikeSweep, sweep-alike}
 use Rattle.steps.proofs.AlikeDown.{MatchDown, AlikeReading, down-alike}
 use Rattle.rows.specs.Layout.{rowsIn}
 use Rattle.journal.specs.Layout.{slices, recordsIn, naturalPart}
-use Rattle.sweep.specs.Slices.{room, roomOf}
-use Rattle.sweep.specs.Lookup.{Answers, numbersIn, tables, reading}
+use Rattle.sweep.specs.Slices.{room}
+use Rattle.sweep.specs.Lookup.{numbersIn, tables, reading}
 use Rattle.hartley.specs.Swept.{swept, natural}
 use Rattle.hartley.proofs.Results as results
 use Rattle.numbering.specs.Outcome.{Lent, callOf, inJournal, sweptUp, readDown}

@@ -1,7 +1,6 @@
 -- What a call of the numbering promises: the outcome to the last number, and of it demands 2 and 3.
 use Prim.Native.Nat.{ℕ, _+_, _*_, _≤_}
 use mathlib.Core.Path.{_≡_}
-use mathlib.Core.List.{List}
 use lib.ListN.{getD}
 use Rattle.sheet.specs.declared.Answer.the-variants.{Accepted}
 use Rattle.sheet.specs.declared.Check.the-variants.{Passed}

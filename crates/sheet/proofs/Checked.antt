@@ -1,13 +1,13 @@
 -- What the theory needs of a checked list, as one record, and the joins that it then has. Whoever changes what a place is or how edges join
 -- proves `Checked` anew and nothing else.
-use mathlib.Core.Path.{_≡_, refl, sym, _∙_}
-use mathlib.Core.Bool.{Bool, true}
-use mathlib.Core.Logic.{_⊎_, ⊎-elim, inl, inr}
-use Prim.Native.Nat.{ℕ, _+_, _≤_, _<_}
+use mathlib.Core.Path.{_≡_}
+use mathlib.Core.Bool.{true}
+use mathlib.Core.Logic.{_⊎_, inl, inr}
+use Prim.Native.Nat.{ℕ, _≤_, _<_}
 use native.Mathlib.Omega.{arith}
 use Rattle.laws.proofs.Deciding.{lt-or-le}
 use Rattle.laws.proofs.Pigeonhole.{reached}
-use Rattle.sheet.specs.Edges.{Sheet, SweepOrder, topHeight}
+use Rattle.sheet.specs.Edges.{Sheet, SweepOrder}
 use Rattle.sheet.specs.Kinds.{Sound, below, above, arriving, leaving, comes}
 use Rattle.sheet.specs.Joining.{Follows}
 use Rattle.sheet.proofs.Following.{next-exists, next-unique, next-one-to-one}

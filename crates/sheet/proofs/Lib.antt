@@ -1,3 +1,4 @@
+-- The laws about points and lists that other crates may cite.
 pub mod Signed
 pub mod Shifting
 pub mod Ranks

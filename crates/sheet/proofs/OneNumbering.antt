@@ -10,7 +10,7 @@ use Rattle.sheet.specs.Edges.{Sheet}
 use Rattle.sheet.specs.Kinds.{leaving}
 use Rattle.sheet.specs.Joining.{Follows}
 use Rattle.sheet.specs.Numbering.{Numbering}
-use Rattle.sheet.proofs.Checked.{Checked, Joins, joins}
+use Rattle.sheet.proofs.Checked.{Checked, joins}
 use Rattle.sheet.proofs.Leads.{step-back, before-follows, lead, lead-is, lead-keeps, lead-from-below}
 
 module _ {sh : Sheet} (K : Checked sh) {polygon sequence polygon′ sequence′ : ℕ → ℕ} {polygons polygons′ : ℕ} (A : Numbering sh polygon sequence polygons) (B : Numbering sh polygon′ sequence′ polygons′) where

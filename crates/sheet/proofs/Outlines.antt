@@ -1,19 +1,17 @@
 -- A polygon number stands for exactly the edges of one outline: in a numbering two edges have one polygon number just where joins lead from one to
 -- the other. Onwards from an edge the sequence numbers rise until 0 comes, which is the lead: there are not more edges than
 -- the list has, so it does come. From the lead every edge of the polygon is reached.
-use mathlib.Core.Path.{_≡_, refl, ap, sym, _∙_}
-use mathlib.Core.Bool.{Bool, true}
-use mathlib.Core.Logic.{⊎-elim, inl, inr, _⊎_}
+use mathlib.Core.Path.{_≡_, refl, sym, _∙_}
+use mathlib.Core.Bool.{true}
+use mathlib.Core.Logic.{⊎-elim, _⊎_}
 use Prim.Native.Nat.{ℕ, zero, suc, _+_, _-_, _≤_, _<_}
 use native.Mathlib.Omega.{arith}
-use Rattle.laws.specs.Counting.{count}
-use Rattle.laws.proofs.Deciding.{lt-or-le}
 use Rattle.laws.proofs.Counting.{count-all}
 use Rattle.laws.proofs.Pigeonhole.{pigeon}
 use Rattle.sheet.specs.Edges.{Sheet}
 use Rattle.sheet.specs.Joining.{Follows, InOutline, itself, onwards}
 use Rattle.sheet.specs.Numbering.{Numbering}
-use Rattle.sheet.proofs.Checked.{Checked, Joins, joins}
+use Rattle.sheet.proofs.Checked.{Checked, joins}
 use Rattle.sheet.proofs.Leads.{step-back, lead, lead-is, lead-outline}
 
 outline-trans : {sh : Sheet} {e f g : ℕ} → InOutline sh e f → InOutline sh f g → InOutline sh e g

@@ -1,14 +1,14 @@
 -- The rank of points in the range: it orders them as `isBelow` does, and points of one rank are one point.
 -- A coordinate in the range shifts to a number up to 2,000,000 and keeps its order, so y counts before x in the rank.
-use mathlib.Core.Path.{_≡_, refl, sym, ap, _∙_}
-use mathlib.Core.Bool.{Bool, true, false, cond, _&&_}
+use mathlib.Core.Path.{_≡_, sym, ap, _∙_}
+use mathlib.Core.Bool.{true, cond, _&&_}
 use mathlib.Core.Logic.{_⊎_, ⊎-elim}
-use Prim.Native.Nat.{ℕ, suc, _+_, _*_, _-_, _≤_, _<_}
+use Prim.Native.Nat.{ℕ, _+_, _*_, _-_, _≤_, _<_}
 use native.Mathlib.Omega.{arith}
 use lib.Dec.{ltb, leb, eqb}
 use lib.IntN.{ℤ, pos, negsuc}
 use lib.Signed.{ltZ}
-use borrow.Author.Tests.{lt-ltb, le-ltb, ltb-true, ltb-false, leb-true, eq-eqb, ne-eqb, eqb-true}
+use borrow.Author.Tests.{lt-ltb, le-ltb, leb-true, eq-eqb, ne-eqb}
 use Rattle.laws.proofs.Deciding.{lt-or-le, eq-or-ne, true-or-false, both-true}
 use Rattle.sheet.specs.declared.Point.{Point}
 use Rattle.sheet.specs.Points.{sameZ, within, inRange, isBelow, isSame}

@@ -1,6 +1,6 @@
 -- A coordinate moved up by a million, in 64 bits and back in 32: what `shifted` computes is `shift`, and nothing wraps on the way.
 use mathlib.Core.Path.{_≡_, refl, sym, ap, _∙_, subst}
-use mathlib.Core.Bool.{Bool, true, false}
+use mathlib.Core.Bool.{true, false}
 use Prim.Native.Nat.{ℕ, suc, _+_, _-_, _≤_, _<_}
 use native.Mathlib.Omega.{arith}
 use lib.Dec.{T}
@@ -9,7 +9,7 @@ use lib.Signed.{ltZ, nonNeg, mag}
 use mir.Syntax.{w32, w64}
 use mir.Val.{Fits, SFits, toZ, ofZ}
 use mir.ValLaws.{toZ-ofZ}
-use borrow.Author.Tests.{lt-ltb, le-ltb, ltb-true, ltb-false}
+use borrow.Author.Tests.{le-ltb, ltb-true, ltb-false}
 use Rattle.sheet.specs.Rank.{shift}
 use Rattle.sheet.proofs.Signed.{read-back}
 

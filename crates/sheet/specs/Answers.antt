@@ -6,7 +6,6 @@ use lib.Dec.{eqb, ltb}
 use lib.IntN.{ℤ, pos}
 use lib.ListN.{length, replicate}
 use Rattle.laws.specs.Counting.{some-below, first}
-use Rattle.sheet.specs.declared.Edge.{Edge}
 use Rattle.sheet.specs.declared.Refusal.{Refusal}
 use Rattle.sheet.specs.declared.Refusal.the-variants.{
   NotWhole,

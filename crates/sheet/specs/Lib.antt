@@ -1,3 +1,4 @@
+-- The statements, in the order to read them.
 pub mod Points
 pub mod Rank
 pub mod Edges

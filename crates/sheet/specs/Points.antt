@@ -1,6 +1,6 @@
 -- Points and edges: the range, the order of points, an edge's two ends. Each is a test or a function that computes, and the functions of the point
 -- and edge types are proved equal to it. "01 Points 2.1" in a comment names the first sentence of the second item under "Points, edges, joins".
-use mathlib.Core.Bool.{Bool, true, false, cond, _&&_}
+use mathlib.Core.Bool.{Bool, false, cond, _&&_}
 use lib.Dec.{eqb}
 use lib.IntN.{ℤ, pos, negsuc}
 use lib.Signed.{ltZ, leZ}

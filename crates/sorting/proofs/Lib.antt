@@ -1,3 +1,4 @@
+-- The laws of sorting.
 pub mod Tally
 pub mod Putting
 pub mod Shuffles

@@ -18,7 +18,7 @@ use Rattle.steps.specs.declared.End.{End}
 use Rattle.steps.specs.declared.End.the-variants.{Done, NoFreeRow, Overrun}
 use Rattle.steps.specs.Rows.{otherSide, Both, on, Branch, Row, Chain, inRow, closing, Record, Edge, Places, Room}
 use Rattle.steps.specs.SweepUp as up
-use Rattle.steps.proofs.Peak.{peak-by-name}
+use Rattle.laws.proofs.Lowest.{count-by-lowest}
 use Rattle.steps.specs.SweepUp.{State, Sweep, hasTip, asEdge, bothFinished, bottom, top, sideOf, sideTest, longer, chainRecord, foundBelow, mostLength}
 
 module _ {P P′ : Type 0} (R : P → P′ → Type 0) where
@@ -143,7 +143,7 @@ module _ {P T J P′ T′ J′ : Type 0} {room : Room P T J} {room′ : Room P�
 
   by-name : (s : State T J) → max (s .peak) (up.inUse room s + 1) ≡ max (s .peak) (up.lowestFree room s + 1)
   unfolding up.inUse up.lowestFree
-  by-name s = peak-by-name (λ r. up.look room s r .used) (s .peak)
+  by-name s = count-by-lowest (λ r. up.look room s r .used) (s .peak)
 
   lowest-up-to : (s : State T J) → up.lowestFree room s ≤ s .peak
   unfolding up.lowestFree

@@ -16,7 +16,7 @@ use Rattle.steps.specs.declared.Side.the-variants.{Rising, Falling}
 use Rattle.steps.specs.declared.End.the-variants.{Overrun}
 use Rattle.steps.specs.Rows.{otherSide, on, inRow, closing}
 use Rattle.steps.specs.SweepUp as up
-use Rattle.steps.proofs.Peak.{peak-by-name}
+use Rattle.laws.proofs.Lowest.{count-by-lowest}
 use Rattle.steps.specs.SweepUp.{mostLength}
 use Rattle.rows.specs.Layout as rows
 use Rattle.rows.specs.Layout.{lookRow, openedIn, movedIn}
@@ -97,4 +97,4 @@ module _ (a b : List ℤ) (s : Progress) (r level : ℕ) (p : Point) where
       q ≡ record { records = s .records; peak = max (s .peak) (r + 1); end = s .end } →
       state a₁ b q ≡ up.open-row (roomOf a b) (state a b s) r level p
   unfolding up.open-row up.inUse up.lowestFree room rows.slices
-  opened free ea eq = rw (ea, eq, free, peak-by-name (λ k. lookRow a k .used) (s .peak))
+  opened free ea eq = rw (ea, eq, free, count-by-lowest (λ k. lookRow a k .used) (s .peak))

@@ -1,3 +1,4 @@
+-- The laws of the turn list.
 pub mod Keys
 pub mod Places
 pub mod Marking

@@ -6,7 +6,7 @@ use std::path::{Path, PathBuf};
 
 use outline::{picture, text, Outlines};
 use witness::declared::touching_points;
-use witness::geometry::{read_edges, Edge};
+use witness::geometry::{read_edges, twice_area};
 
 fn sample(name: &str) -> PathBuf {
     let samples = Path::new(env!("CARGO_MANIFEST_DIR")).join("../../samples");
@@ -45,15 +45,6 @@ fn the_touching_sheet_and_its_picture() {
     );
 }
 
-/// Twice the area on the left of the edges.
-fn area(edges: &[Edge]) -> i64 {
-    let cross = |edge: &Edge| {
-        let (tail, head) = (edge.tail, edge.head);
-        i64::from(tail.x) * i64::from(head.y) - i64::from(head.x) * i64::from(tail.y)
-    };
-    edges.iter().map(cross).sum()
-}
-
 #[test]
 fn the_portrait() {
     let portrait = sheet("portrait.txt");
@@ -64,5 +55,5 @@ fn the_portrait() {
     assert_eq!(touching_points(&edges).len(), 5);
     let bitmap = bytes("portrait.pixels");
     let film = bitmap.iter().filter(|byte| **byte == b'#').count();
-    assert_eq!(area(&edges), 2 * film as i64);
+    assert_eq!(twice_area(&edges), 2 * film as i64);
 }

@@ -153,3 +153,12 @@ pub fn write_edges(edges: &[Edge]) -> Vec<i32> {
     let numbers = |edge: &Edge| [edge.tail.x, edge.tail.y, edge.head.x, edge.head.y];
     edges.iter().flat_map(numbers).collect()
 }
+
+/// Twice the area on the left of the edges.
+pub fn twice_area(edges: &[Edge]) -> i64 {
+    let cross = |edge: &Edge| {
+        let (tail, head) = (edge.tail, edge.head);
+        i64::from(tail.x) * i64::from(head.y) - i64::from(head.x) * i64::from(tail.y)
+    };
+    edges.iter().map(cross).sum()
+}

@@ -6,7 +6,7 @@ use witness::checks::{checked, Lengths};
 use witness::declared;
 use witness::generate::{any, comb, in_sweep_order, moved, pixels, saw, saws, spiral, squares};
 use witness::generate::{turned_round, Random, Sheet};
-use witness::geometry::{read_edges, Edge, Point};
+use witness::geometry::{read_edges, twice_area, Edge, Point};
 use witness::steps::sweep_up;
 use witness::text::read_list;
 use witness::vectors::{read_cases, Work};
@@ -81,26 +81,17 @@ fn shapes_have_the_edges_they_claim() {
     assert_eq!(declared::outlines(&grid).len(), 15);
 }
 
-/// Twice the area on the left of a sheet's edges.
-fn area(edges: &[Edge]) -> i64 {
-    let cross = |edge: &Edge| {
-        let (tail, head) = (edge.tail, edge.head);
-        i64::from(tail.x) * i64::from(head.y) - i64::from(head.x) * i64::from(tail.y)
-    };
-    edges.iter().map(cross).sum()
-}
-
 #[test]
 fn film_lies_on_the_left() {
     let full = pixels(&mut Random::new(4), 5, 3, 100, true);
     assert_eq!(sorted(&full).len(), 4);
-    assert_eq!(area(&read_edges(&full)), 2 * 15);
+    assert_eq!(twice_area(&read_edges(&full)), 2 * 15);
     let unit = pixels(&mut Random::new(4), 5, 3, 100, false);
     assert_eq!(read_edges(&unit).len(), 16);
     for seed in 0..200 {
         let unit = read_edges(&pixels(&mut Random::new(seed), 9, 9, 50, false));
         let merged = read_edges(&pixels(&mut Random::new(seed), 9, 9, 50, true));
-        assert!(area(&unit) > 0 && area(&unit) == area(&merged));
+        assert!(twice_area(&unit) > 0 && twice_area(&unit) == twice_area(&merged));
         assert!(merged.len() < unit.len());
         let outlines = |edges: &[Edge]| declared::outlines(edges).len();
         assert_eq!(outlines(&unit), outlines(&merged), "seed {}", seed);

@@ -1,3 +1,4 @@
+-- `outline_number` meets its contract: the promise of `number`, its answer as plain numbers.
 use Rattle.desk.specs.Exported.{left}
 use borrow.Author.Needs.{needs}
 use Rattle.desk.proofs.outline_number.Statement.{statement}

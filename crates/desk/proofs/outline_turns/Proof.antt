@@ -1,3 +1,4 @@
+-- `outline_turns` meets its contract: what `turn_list` ensures, its answer as plain numbers.
 use mathlib.Core.Path.{ap, _∙_, subst}
 use denote.Ref.{now}
 use Rattle.sheet.specs.TurnList.{TurnsAfter}

@@ -1,4 +1,5 @@
-use mathlib.Core.Path.{_≡_, sym, ap, _∙_}
+-- `sheet_of` meets its contract, case by case of the answer.
+use mathlib.Core.Path.{sym, ap, _∙_}
 use Rattle.desk.specs.Exported.{sheetFrom}
 use borrow.Author.Needs.{needs}
 use Rattle.desk.proofs.sheet_of.Statement.{statement}

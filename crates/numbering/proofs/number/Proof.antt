@@ -1,3 +1,4 @@
+-- `number` meets its contract: the answer sheet by the checks, the rest by the theorems of Promising.
 use mathlib.Core.Path.{sym, ap, _∙_}
 use denote.Ref.{now}
 use Rattle.sheet.specs.Edges.{edgesIn}

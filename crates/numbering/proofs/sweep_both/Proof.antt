@@ -1,12 +1,10 @@
-use mathlib.Core.Path.{_≡_, refl, sym, ap, _∙_}
-use mathlib.Core.Bool.{Bool, true, false}
-use Prim.Native.Nat.{ℕ, _*_, _/_, _≤_}
+-- `sweep_both` meets its contract: the two sweeps, and what each end of the first leaves, are those of the outcome.
+use mathlib.Core.Path.{sym, ap, _∙_}
 use native.Mathlib.Omega.{arith}
 use denote.Ref.{now}
-use lib.ListN.{length}
 use borrow.Author.Tests.{not-true, not-false}
 use Rattle.sheet.specs.Edges.{edgesIn}
-use Rattle.numbering.specs.Outcome.{Lent, lent, sweptUp}
+use Rattle.numbering.specs.Outcome.{lent, sweptUp}
 use Rattle.numbering.proofs.Leaving as leaving
 use Rattle.numbering.proofs.Leaving.{is-done-end}
 use borrow.Author.Needs.{needs}

@@ -1,3 +1,4 @@
+-- `number_edges` is safe: each part of the room that it lends is within the room.
 use native.Mathlib.Omega.{arith}
 use mathlib.Core.Path.{sym}
 use lib.Seq.{length-take-le}

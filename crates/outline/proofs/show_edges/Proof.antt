@@ -1,3 +1,4 @@
+-- `show_edges` ends: the place falls with each line.
 use borrow.Author.Needs.{needs}
 use Rattle.outline.proofs.show_edges.Statement.{statement}
 use Rattle.outline.proofs.show_edges.Tie as tie

@@ -1,5 +1,5 @@
+-- `between_limits` meets its contract: both limits are compared, the lower one first.
 use Rattle.sheet.specs.Points.{within}
-use mathlib.Core.Path.{sym, _∙_}
 use Rattle.sheet.proofs.Signed.{read-back}
 use Rattle.sheet.proofs.between_limits.Statement.{statement}
 use Rattle.sheet.proofs.between_limits.Tie as tie

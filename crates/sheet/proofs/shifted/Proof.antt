@@ -1,3 +1,4 @@
+-- `shifted` meets its contract, by the laws of Shifting.
 use Rattle.sheet.proofs.Shifting.{low, widens, sum-fits, casts, value}
 use Rattle.sheet.proofs.shifted.Statement.{statement}
 use Rattle.sheet.proofs.shifted.Tie as tie

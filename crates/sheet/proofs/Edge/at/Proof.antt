@@ -1,3 +1,4 @@
+-- `Edge::at` meets its contract: four numbers of the slice, each read back as it stands.
 use Rattle.sheet.specs.Edges.{edgeAt}
 use Rattle.sheet.proofs.Signed.{read-back}
 use borrow.Author.Needs.{needs}

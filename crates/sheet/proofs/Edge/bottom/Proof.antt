@@ -1,3 +1,4 @@
+-- `Edge::bottom` meets its contract: the tail of an up edge, the head of any other.
 use mathlib.Core.Path.{sym, _∙_}
 use borrow.Author.Needs.{needs}
 use Rattle.sheet.specs.Points.{isUp, bottomOf}

@@ -1,3 +1,4 @@
+-- `Edge::is_up` meets its contract: it is what `below` says of tail and head.
 use borrow.Author.Needs.{needs}
 use Rattle.sheet.specs.Points.{isUp}
 use Rattle.sheet.proofs.Edge.is_up.Statement.{statement}

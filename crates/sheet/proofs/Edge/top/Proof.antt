@@ -1,3 +1,4 @@
+-- `Edge::top` meets its contract: the head of an up edge, the tail of any other.
 use mathlib.Core.Path.{sym, _∙_}
 use borrow.Author.Needs.{needs}
 use Rattle.sheet.specs.Points.{isUp, topOf}

@@ -1,3 +1,4 @@
+-- `Point::below` meets its contract: y is compared first, then x where the bits of y are equal.
 use mathlib.Core.Path.{ap}
 use mir.Syntax.{w32}
 use mir.Val.{ofZ}

@@ -1,3 +1,4 @@
+-- `Point::in_range` meets its contract: both coordinates are between the limits.
 use mathlib.Core.Path.{_∙_, sym, ap}
 use mathlib.Core.Bool.{Bool, _&&_}
 use borrow.Author.Needs.{needs}

@@ -1,3 +1,4 @@
+-- `Point::rank` meets its contract: both shifted coordinates are small, so nothing runs over.
 use Rattle.sheet.specs.Rank.{rank}
 use Rattle.sheet.proofs.Signed.{read-back}
 use borrow.Author.Needs.{needs}

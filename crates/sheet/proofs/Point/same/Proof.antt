@@ -1,3 +1,4 @@
+-- `Point::same` meets its contract: equal bits are equal numbers.
 use mathlib.Core.Path.{ap, _∙_, sym}
 use mathlib.Core.Bool.{Bool, _&&_}
 use mir.Syntax.{w32}
