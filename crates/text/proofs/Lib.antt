@@ -8,6 +8,7 @@ pub mod Newlines
 pub mod Rooms
 pub mod Tried
 pub mod Limits
+pub mod EnoughRoom
 pub mod OneOutcome
 pub mod ToTheEnd
 pub mod Decimals

@@ -6,7 +6,7 @@ use mathlib.Core.Logic.{⊎-elim}
 use Prim.Native.Nat.{ℕ, zero, suc, _+_, _*_, _/_, _%_, _<_}
 use native.Mathlib.Omega.{arith}
 use lib.IntN.{ℤ, pos}
-use lib.ListN.{getD}
+use lib.ListN.{getD, length}
 use lib.Seq.{ext-getD}
 use Rattle.laws.proofs.Deciding.{lt-or-le}
 use Rattle.sheet.specs.declared.Edge.{Edge}
@@ -34,7 +34,7 @@ filled-same s m {before} {a} {b} f g k = ⊎-elim
     (lt-or-le k (4 * m))
 
 pub one-outcome : (s : List ℕ) {before a b : List ℤ} {p q : Reading} → Outcome s before a p → Outcome s before b q → (p ≡ q) × (a ≡ b)
-one-outcome s {a = a} {b = b} x y = (
+one-outcome s {before} {a} {b} x y = (
   x .answer ∙ sym (y .answer),
-  ext-getD (pos 0) a b (x .filled .same-length ∙ sym (y .filled .same-length)) (λ k l. filled-same s (linesRead s) (x .filled) (y .filled) k),
+  ext-getD (pos 0) a b (x .filled .same-length ∙ sym (y .filled .same-length)) (λ k l. filled-same s (linesRead s (length before)) (x .filled) (y .filled) k),
 )

@@ -1,4 +1,5 @@
--- What is written is read: a list of up to 512 edges of numbers of up to seven digits, written in decimal, answers with as many edges, and they are those.
+-- What is written is read: a list of up to 512 edges of numbers of up to seven digits, written in decimal, answers with as many edges, and they are those,
+-- in every room that takes them.
 -- So the definitions refuse nothing that is well formed. Line by line: the text of an edge is a well-formed line, and the next begins after it.
 use mathlib.Core.Path.{_≡_, refl, sym, ap, _∙_}
 use mathlib.Core.Bool.{false}
@@ -16,7 +17,7 @@ use Rattle.text.specs.declared.Line.the-variants as line
 use Rattle.text.specs.declared.Reading.the-variants.{Edges}
 use Rattle.text.specs.Numbers.{byteAt, isDigit}
 use Rattle.text.specs.Lines.{pastAt, onward, followed, fieldAt, andThen, space, newline, lineAt, isMalformed, edgeIn, edgeOf}
-use Rattle.text.specs.Texts.{lineCount, lineStart, lineOf, firstMalformed, tooMuch, answerOf, readingOf}
+use Rattle.text.specs.Texts.{lineCount, lineStart, lineOf, firstMalformed, pastLimits, tooMuch, answerOf, readingOf}
 use Rattle.text.specs.Written.{numeral, withByte, writtenLine, written, Short, ShortEdge, AllShort}
 use Rattle.text.proofs.LineEnds.{line-ends}
 use Rattle.text.proofs.ToTheEnd.{lines-are}
@@ -163,18 +164,19 @@ module _ (es : List Edge) (l : AllShort es) where
       let q : 0 + length es ≡ length es = omega arith in
       lines-are (written es) (length es) none-malformed (omega (arith, ap (lineStart (written es)) q, all-read .ends))
 
-  not-too-much : length es ≤ 512 → tooMuch (written es) ≡ false
-  unfolding tooMuch
-  not-too-much few = rw (
+  not-too-much : (room : ℕ) → length es ≤ 512 → 4 * length es ≤ room → tooMuch (written es) room ≡ false
+  unfolding tooMuch pastLimits
+  not-too-much room few fits = rw (
     le-ltb 20480 (length (written es)) (omega (arith, written-length es l)),
     le-ltb 512 (lineCount (written es)) (omega (arith, as-many-lines)),
+    le-ltb room (4 * lineCount (written es)) (omega (arith, as-many-lines)),
   )
 
-  pub written-read : length es ≤ 512 → readingOf (written es) ≡ Edges (length es)
+  pub written-read : (room : ℕ) → length es ≤ 512 → 4 * length es ≤ room → readingOf (written es) room ≡ Edges (length es)
   unfolding readingOf answerOf firstMalformed
-  written-read few =
+  written-read room few fits =
       let q : length es ≡ firstMalformed (written es) (length es) = found-none _ none-malformed (omega arith) in
-      rw (not-too-much few, as-many-lines, ← q, le-ltb (length es) (length es) (omega arith))
+      rw (not-too-much room few fits, as-many-lines, ← q, le-ltb (length es) (length es) (omega arith))
 
   pub edges-read : (d : Edge) (n : ℕ) → n < length es → edgeIn (lineOf (written es) n) ≡ getD es n d
   unfolding edgeIn

@@ -4,7 +4,7 @@ use mathlib.Core.Path.{_≡_, refl, sym, ap, _∙_}
 use mathlib.Core.Bool.{true, false}
 use mathlib.Core.List.{List}
 use mathlib.Core.Logic.{⊎-elim}
-use Prim.Native.Nat.{ℕ, zero, suc, _+_, _-_, _≤_, _<_}
+use Prim.Native.Nat.{ℕ, zero, suc, _+_, _-_, _*_, _≤_, _<_}
 use native.Mathlib.Omega.{arith}
 use lib.Dec.{ltb}
 use lib.ListN.{length}
@@ -23,6 +23,7 @@ use Rattle.text.specs.Numbers.{byteAt}
 use Rattle.text.specs.Lines.{isMalformed}
 use Rattle.text.specs.Texts.{newlineAt, newlines, unended, lineCount, lineStart, lineOf, firstMalformed, tooMuch, answerOf, readingOf}
 use Rattle.text.proofs.Bytes.{byte-stands}
+use Rattle.text.proofs.EnoughRoom.{few-lines}
 use Rattle.text.proofs.LineEnds.{Ended, line-is, line-ends}
 
 pub has-edge : (l : Line) → isMalformed l ≡ false → (e : Edge) × (c : Cursor) × (l ≡ line.Edge e c)
@@ -113,25 +114,32 @@ module _ (s : List ℕ) where
       none-yet : count (newlineAt s) 0 ≡ 0
       none-yet = count-none (newlineAt s) 0 (λ k l. absurd (omega arith))
 
-  pub record ReadWhole (n : ℕ) : Type 0 where
+  pub record ReadWhole (size n : ℕ) : Type 0 where
     pub lines : n ≡ lineCount s
     pub few : n ≤ 512
+    pub room : 4 * n ≤ size
     pub sound : NoneBelow (λ k. isMalformed (lineOf s k)) n
     pub end : lineStart s n ≡ length s
 
-  read-whole : lineCount s ≤ 512 → lineCount s ≤ firstMalformed s (lineCount s) → ReadWhole (lineCount s)
-  read-whole f m = let h = none-malformed s m in record { lines = refl; few = f; sound = h; end = all-lines h }
-
-  few-lines : tooMuch s ≡ false → lineCount s ≤ 512
+  read-whole : (size : ℕ) → tooMuch s size ≡ false → lineCount s ≤ firstMalformed s (lineCount s) → ReadWhole size (lineCount s)
   unfolding tooMuch
-  few-lines h = ltb-false 512 (lineCount s) (neither-true (ltb 20480 (length s)) (ltb 512 (lineCount s)) h .1)
+  read-whole size t m =
+      let h = none-malformed s m in
+      let v = neither-true _ _ t in
+      record {
+        lines = refl;
+        few = few-lines s (v .0);
+        room = ltb-false size (4 * lineCount s) (v .1);
+        sound = h;
+        end = all-lines h;
+      }
 
-  pub to-the-end : (n : ℕ) → readingOf s ≡ Edges n → ReadWhole n
+  pub to-the-end : (size n : ℕ) → readingOf s size ≡ Edges n → ReadWhole size n
   unfolding readingOf answerOf
-  to-the-end n h = ⊎-elim
+  to-the-end size n h = ⊎-elim
       (λ t. let z : _≡_ {A = ℕ} 0 1 = cc (rw t at h) in absurd (omega arith))
       (λ t. ⊎-elim
       (λ g. let z : _≡_ {A = ℕ} 0 1 = cc (rw (t, g) at h) in absurd (omega arith))
-      (λ g. let e : lineCount s ≡ n = cc (rw (t, g) at h) in rw (← e) (read-whole (few-lines t) (ltb-false _ _ g)))
+      (λ g. let e : lineCount s ≡ n = cc (rw (t, g) at h) in rw (← e) (read-whole size t (ltb-false _ _ g)))
       (true-or-false (ltb (firstMalformed s (lineCount s)) (lineCount s))))
-      (true-or-false (tooMuch s))
+      (true-or-false (tooMuch s size))

@@ -1,10 +1,10 @@
 -- What is read is written: where a line or a whole text of edges is read, it is that edge or list as it is written in decimal.
--- With ReadBack: the texts that answer with edges are the written lists of up to 512 edges, each the text of its own list.
+-- With ReadBack: the texts that answer with edges are the written lists of up to 512 edges that the room takes, each the text of its own list.
 use mathlib.Core.Path.{_≡_, refl, sym, ap, _∙_}
 use mathlib.Core.Bool.{false}
 use mathlib.Core.List.{List, [], _∷_, _++_, append-assoc, append-nil}
 use mathlib.Core.Logic.{⊎-elim}
-use Prim.Native.Nat.{ℕ, zero, suc, _+_, _≤_}
+use Prim.Native.Nat.{ℕ, zero, suc, _+_, _*_, _≤_}
 use native.Mathlib.Omega.{arith}
 use lib.IntN.{ℤ}
 use lib.ListN.{length, length-append, List·getD-append}
@@ -116,14 +116,16 @@ unfolding linesOf lineStart written
 front-written s zero h = record { as-many = refl; short = λ d k l. absurd (omega arith); there = λ k l. absurd (omega arith); past = refl }
 front-written s (suc n) h = line-more s n (front-written s n (λ k l. h k (omega arith))) (h n (omega arith))
 
-pub written-so : (s : List ℕ) (n : ℕ) → readingOf s ≡ Edges n → (es : List Edge) × (length es ≡ n) × (n ≤ 512) × AllShort es × (written es ≡ s)
+pub written-so : (s : List ℕ) (room n : ℕ) → readingOf s room ≡ Edges n
+    → (es : List Edge) × (length es ≡ n) × (n ≤ 512) × (4 * n ≤ room) × AllShort es × (written es ≡ s)
 unfolding byteAt
-written-so s n h =
-    let r = to-the-end s n h in
+written-so s room n h =
+    let r = to-the-end s room n h in
     let f = front-written s n (r .sound) in (
       linesOf s n,
       f .as-many,
       r .few,
+      r .room,
       f .short,
       ext-getD 256 (written (linesOf s n)) s (sym (f .past) ∙ r .end) (λ k l. let q : 0 + k ≡ k = omega arith in sym (f .there k l) ∙ ap (byteAt s) q),
     )

@@ -1,4 +1,4 @@
--- A whole text: its lines to the very end, the limits, and what reading it answers and writes. A line begins at the front or after a newline, and a last
+-- A whole text: its lines to the very end, the limits, the room, and what reading it answers and writes. A line begins at the front or after a newline, and a last
 -- line that no newline ends is a line too. The first malformed line is the first number below the number of lines that passes a test.
 use Prim.Native.Nat.{ℕ, zero, suc, _+_, _-_, _*_, _≤_, _<_}
 use mathlib.Core.Path.{_≡_}
@@ -46,16 +46,20 @@ unfoldable pub firstMalformed : List ℕ → ℕ → ℕ
 firstMalformed s lines = first (λ n. isMalformed (lineOf s n)) lines
 
 -- 01 Program 1 and 4: past the limit of bytes or of lines
-unfoldable pub tooMuch : List ℕ → Bool
-tooMuch s = ltb 20480 (length s) || ltb 512 (lineCount s)
+unfoldable pub pastLimits : List ℕ → Bool
+pastLimits s = ltb 20480 (length s) || ltb 512 (lineCount s)
+
+-- past a limit, or the room has fewer numbers than four for each line
+unfoldable pub tooMuch : List ℕ → ℕ → Bool
+tooMuch s room = pastLimits s || ltb room (4 * lineCount s)
 
 -- what so many lines answer, m of them well formed in front of the first malformed one: lines are numbered from 1
 unfoldable pub answerOf : ℕ → ℕ → Reading
 answerOf lines m = cond (ltb m lines) (Malformed (m + 1)) (Edges lines)
 
--- 01 Program 4: what a text answers; the limits are tried first
-unfoldable pub readingOf : List ℕ → Reading
-readingOf s = cond (tooMuch s) TooMuch (answerOf (lineCount s) (firstMalformed s (lineCount s)))
+-- 01 Program 4: what a text answers where so much room is lent; the limits and the room are tried first
+unfoldable pub readingOf : List ℕ → ℕ → Reading
+readingOf s room = cond (tooMuch s room) TooMuch (answerOf (lineCount s) (firstMalformed s (lineCount s)))
 
 -- the number and the place of each refusal; both 0 where the text is read
 abbrev pub readingNumber : Reading → ℕ
@@ -69,8 +73,8 @@ readingPlace (Malformed line) = line
 readingPlace (Edges n) = 0
 
 -- how many lines are read: those in front of the first malformed one, none of a text that is too much
-unfoldable pub linesRead : List ℕ → ℕ
-linesRead s = cond (tooMuch s) 0 (firstMalformed s (lineCount s))
+unfoldable pub linesRead : List ℕ → ℕ → ℕ
+linesRead s room = cond (tooMuch s room) 0 (firstMalformed s (lineCount s))
 
 -- a list with an edge's four numbers at its place
 abbrev pub placed : List ℤ → ℕ → Edge → List ℤ
@@ -88,7 +92,7 @@ pub record LinesTried (s : List ℕ) (lines : ℕ) (before after : List ℤ) (r 
   pub answer : r ≡ answerOf lines (firstMalformed s lines)
   pub filled : Filled s (firstMalformed s lines) before after
 
--- The answer and the room after a whole text has been read.
+-- The answer and the room after a whole text has been read into it. Where the answer is too much, nothing is written.
 pub record Outcome (s : List ℕ) (before after : List ℤ) (r : Reading) : Type 0 where
-  pub answer : r ≡ readingOf s
-  pub filled : Filled s (linesRead s) before after
+  pub answer : r ≡ readingOf s (length before)
+  pub filled : Filled s (linesRead s (length before)) before after

@@ -298,7 +298,7 @@ fn put(edges: &mut [i32], place: usize, edge: sheet::Edge)
 
 // Line by line, to the first that is malformed.
 fn read_lines(text: &[u8], lines: usize, edges: &mut [i32]) -> Reading
-    requires { ⌜ (lines ≤ 512) × (2048 ≤ length (now edges)) ⌝ }
+    requires { ⌜ (lines ≤ 512) × (4 * lines ≤ length (now edges)) ⌝ }
     ensures { λ r. ⌜ LinesTried (now (text .entry)) lines (now (edges .entry)) (now (edges .exit)) r ⌝ }
 {
     let mut cursor = Cursor { at: 0 };
@@ -314,9 +314,8 @@ fn read_lines(text: &[u8], lines: usize, edges: &mut [i32]) -> Reading
     Reading::Edges(lines)
 }
 
-// A whole text: the limits first, then the lines.
+// A whole text: the limits and the room first, then the lines.
 pub fn read(text: &[u8], edges: &mut [i32]) -> Reading
-    requires { ⌜ 2048 ≤ length (now edges) ⌝ }
     ensures { λ r. ⌜ Outcome (now (text .entry)) (now (edges .entry)) (now (edges .exit)) r ⌝ }
 {
     if MOST_BYTES < text.len() {
@@ -324,6 +323,9 @@ pub fn read(text: &[u8], edges: &mut [i32]) -> Reading
     }
     let lines = line_count(text);
     if MOST_LINES < lines {
+        return Reading::TooMuch;
+    }
+    if edges.len() < sheet::Edge::NUMBERS * lines {
         return Reading::TooMuch;
     }
     read_lines(text, lines, edges)

@@ -1,5 +1,5 @@
--- `read` tries the limits and then reads the lines: one law for each way out.
-use Rattle.text.proofs.Limits.{many-bytes, many-lines, lines-read}
+-- `read` tries the limits and the room and then reads the lines: one law for each way out.
+use Rattle.text.proofs.Limits.{many-bytes, many-lines, little-room, lines-read}
 use borrow.Author.Needs.{needs}
 use Rattle.text.proofs.read.Statement.{statement}
 use Rattle.text.proofs.read.Tie as tie
@@ -13,21 +13,34 @@ line-count-requires c κs = search needs
 returns-2 : tie.Need-returns-2
 returns-2 c = many-lines _ (c .before .before .if1 .left) (c .before .line-count .ensures) _ (c .if2 .taken)
 
+mul-if3 : tie.Need-mul-if3
+mul-if3 c = search needs
+
+returns-3 : tie.Need-returns-3
+returns-3 c =
+    little-room _
+    (c .before .before .before .if1 .left)
+    (c .before .before .line-count .ensures)
+    (c .before .if2 .left)
+    _
+    (c .if3 .taken)
+
 read-lines-requires : tie.Need-read-lines-requires
 read-lines-requires c κs = search needs
 
 same-length : tie.Need-same-length
 same-length c = search needs
 
-returns-3 : tie.Need-returns-3
-returns-3 c =
+returns-4 : tie.Need-returns-4
+returns-4 c =
     lines-read _
-    (c .before .before .before .before .before .if1 .left)
-    (c .before .before .before .before .line-count .ensures)
-    (c .before .before .before .if2 .left)
+    (c .before .before .before .before .before .before .if1 .left)
+    (c .before .before .before .before .before .line-count .ensures)
+    (c .before .before .before .before .if2 .left)
+    (c .before .before .before .if3 .left)
     (c .before .read-lines .ensures)
 
 pub read-spec : {M : Type 1} → statement M
 read-spec =
     tie.close
-    (tie.spec returns line-count-requires returns-2 read-lines-requires same-length returns-3)
+    (tie.spec returns line-count-requires returns-2 mul-if3 returns-3 read-lines-requires same-length returns-4)
