@@ -1,3 +1,4 @@
+-- The laws that the proofs of the functions use, and the theorems about the definitions.
 pub mod Bytes
 pub mod Signs
 pub mod Numerals

@@ -17,7 +17,7 @@ one-more : (t : Bool) (n : ℕ) → cond t (n + 1) n ≡ n + bit t
 one-more true n = omega arith
 one-more false n = omega arith
 
-pub seen : (s : List ℕ) (k : ℕ) {b : ℕ} → b ≡ byteAt s (k + 0) → eqb b 10 ≡ newlineAt s k
+seen : (s : List ℕ) (k : ℕ) {b : ℕ} → b ≡ byteAt s (k + 0) → eqb b 10 ≡ newlineAt s k
 unfolding newlineAt
 seen s k e = ap (λ (c : ℕ). eqb c 10) (byte-here s k e)
 

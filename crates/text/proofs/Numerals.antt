@@ -33,14 +33,19 @@ module _ (s : List ℕ) (i : ℕ) where
   unfolding digitsFrom
   digit-there k l = not-false _ (first-least (noDigit s i) 8 k l)
 
-  pub digits-stand : (d : ℕ) → 1 ≤ d → d ≤ digitsFrom s i → i + d ≤ length s
+  digits-stand : (d : ℕ) → 1 ≤ d → d ≤ digitsFrom s i → i + d ≤ length s
   digits-stand d p l = omega (arith, digit-stands s (i + (d - 1)) (digit-there (d - 1) (omega arith)))
 
   pub value-more : (k : ℕ) → valueAt s i (k + 1) ≡ 10 * valueAt s i k + (byteAt s (i + k) - 48)
   unfolding valueAt
   value-more k = rw add-one
 
-  pub value-below : (d : ℕ) → d ≤ digitsFrom s i → valueAt s i d < 10 ^ d
+  -- the value with one digit more, looked at and read as a figure
+  pub value-grown : (k : ℕ) {value byte figure : ℕ} → value ≡ valueAt s i k → byte ≡ byteAt s (i + k) → figure ≡ byte - 48
+      → 10 * value + figure ≡ valueAt s i (k + 1)
+  value-grown k e b f = omega (arith, value-more k)
+
+  value-below : (d : ℕ) → d ≤ digitsFrom s i → valueAt s i d < 10 ^ d
   unfolding valueAt
   value-below zero l = omega arith
   value-below (suc d) l = omega (arith, pow-succ' 10 d, value-below d (omega arith), digit-range _ (digit-there d l))
@@ -57,6 +62,13 @@ numeral-few minus lead d e =
     let w = both-true _ _ (v .1) in
     (leb-true _ _ (v .0), leb-true _ _ (w .0))
 
+-- d digits at a, after a minus or not, write the number at i: they are few and stand in the text
+pub record IsNumber (s : List ℕ) (i : ℕ) (minus : Bool) (a d : ℕ) : Type 0 where
+  pub few : (d ≤ 7) × (d ≤ digitsFrom s a)
+  pub stands : a + d ≤ length s
+  pub small : valueAt s a d < 10000000
+  pub number : Value (signed minus (valueAt s a d)) (record { at = a + d }) ≡ numberAt s i
+
 -- A number read step by step: the minus, the place of the digits, how many they are, the first of them.
 module _ (s : List ℕ) (i : ℕ) {minus : Bool} {a d lead : ℕ}
     (m : minus ≡ minusAt s i) (p : a ≡ digitsAt s i) (n : d ≡ digitsFrom s a) (b : lead ≡ byteAt s (a + 0)) where
@@ -69,16 +81,17 @@ module _ (s : List ℕ) (i : ℕ) {minus : Bool} {a d lead : ℕ}
   pub no-number : isNumeral minus lead d ≡ false → Malformed ≡ numberAt s i
   no-number h = taken-apart false h
 
-  module _ (h : isNumeral minus lead d ≡ true) where
-    pub number-few : (d ≤ 7) × (d ≤ digitsFrom s a)
-    number-few = (numeral-few minus lead d h .1, omega arith)
+  pub is-number : isNumeral minus lead d ≡ true → IsNumber s i minus a d
+  is-number h =
+      let f = numeral-few minus lead d h in
+      record {
+        few = (f .1, omega arith);
+        stands = digits-stand s a d (f .0) (omega arith);
+        small = value-small s a d (f .1) (omega arith);
+        number = taken-apart true h;
+      }
 
-    pub number-stands : a + d ≤ length s
-    number-stands = digits-stand s a d (numeral-few minus lead d h .0) (omega arith)
-
-    module _ {v : ℕ} (f : v ≡ valueAt s a d) where
-      pub number-small : v < 10000000
-      number-small = omega (arith, value-small s a d (number-few .0) (number-few .1))
-
-      pub a-number : {z : ℤ} → z ≡ signed minus v → Value (toZ w32 (ofZ w32 z)) (record { at = a + d }) ≡ numberAt s i
-      a-number e = rw (e, read-back (signed minus v) (omega (arith, number-small, mag-signed minus v)), f) (taken-apart true h)
+-- the number in 32 bits
+pub a-number : {s : List ℕ} {i : ℕ} {minus : Bool} {a d v : ℕ} {z : ℤ} → IsNumber s i minus a d → v ≡ valueAt s a d → z ≡ signed minus v
+    → Value (toZ w32 (ofZ w32 z)) (record { at = a + d }) ≡ numberAt s i
+a-number {minus = minus} {v = v} f e g = rw (g, read-back (signed minus v) (omega (arith, f .small, mag-signed minus v)), e) (f .number)

@@ -31,7 +31,7 @@ module _ (s : List ℕ) (i : ℕ) {w : List ℕ} {n : ℕ} (f : Writes 7 w n) (h
   lead-is : byteAt s i ≡ byteAt w 0
   lead-is = let q : i ≡ i + 0 = omega arith in ap (byteAt s) q ∙ h 0 (f .some)
 
-  pub no-minus : minusAt s i ≡ false
+  no-minus : minusAt s i ≡ false
   unfolding minusAt
   no-minus = ne-eqb (byteAt s i) 45 (λ q. omega (arith, lead-is, digit-range (byteAt w 0) (f .digit 0 (f .some))))
 
@@ -46,7 +46,7 @@ module _ (s : List ℕ) (i : ℕ) {w : List ℕ} {n : ℕ} (f : Writes 7 w n) (h
       by true m z = absurd (omega (arith, m refl))
       by false m z = refl
 
-  pub numeral-read : (minus : Bool) → (minus ≡ true → 1 ≤ n) → numeralAt s minus i (digitsFrom s i) ≡ Value (signed minus n) (record { at = i + length w })
+  numeral-read : (minus : Bool) → (minus ≡ true → 1 ≤ n) → numeralAt s minus i (digitsFrom s i) ≡ Value (signed minus n) (record { at = i + length w })
   unfolding numeralAt
   numeral-read minus m = rw (digits-are, is-numeral minus m, value-is)
 

@@ -13,7 +13,7 @@ use Rattle.sheet.specs.Edges.{edgeAt}
 use Rattle.text.specs.Lines.{edgeIn}
 use Rattle.text.specs.Texts.{lineOf, placed, Filled}
 
-pub placed-length : (l : List ℤ) (n : ℕ) (e : Edge) → length (placed l n e) ≡ length l
+placed-length : (l : List ℤ) (n : ℕ) (e : Edge) → length (placed l n e) ≡ length l
 placed-length l n e = simp length-set
 
 -- away from the edge's place nothing changes

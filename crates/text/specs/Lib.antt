@@ -1,3 +1,4 @@
+-- The definitions: a number, a line, a whole text, and how edges are written.
 pub mod Numbers
 pub mod Lines
 pub mod Texts

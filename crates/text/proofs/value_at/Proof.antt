@@ -1,5 +1,5 @@
 -- `value_at` is the value of the digits passed, at every step of the loop. They are digits and at most seven, so nothing wraps.
-use Rattle.text.proofs.Numerals.{value-more, value-small}
+use Rattle.text.proofs.Numerals.{value-grown, value-small}
 use Rattle.text.specs.Numbers.{valueAt}
 use borrow.Author.Needs.{needs}
 use native.Mathlib.Omega.{arith}
@@ -47,13 +47,7 @@ add-value c =
           ((c .before .before .before .loop .k) + 1)
           (search needs)
           (search needs),
-      value-more
-          (c .before .before .before .before .before .args .text .now)
-          (c .before .before .before .before .before .args .at)
-          (c .before .before .before .loop .k),
-      c .before .before .before .loop .inv .1,
-      c .figure .ensures,
-      c .before .byte-at .ensures,
+      value-grown _ _ _ (c .before .before .before .loop .inv .1) (c .before .byte-at .ensures) (c .figure .ensures),
     )
 
 add-k : tie.Need-add-k Inv-loop μ-loop
@@ -65,16 +59,7 @@ loop-less c = search needs
 loop-again : tie.Need-loop-again Inv-loop μ-loop
 loop-again c = (
   search needs,
-  omega (
-    arith,
-    value-more
-        (c .before .before .before .before .before .args .text .now)
-        (c .before .before .before .before .before .args .at)
-        (c .before .before .before .loop .k),
-    c .before .before .before .loop .inv .1,
-    c .figure .ensures,
-    c .before .byte-at .ensures,
-  ),
+  value-grown _ _ _ (c .before .before .before .loop .inv .1) (c .before .byte-at .ensures) (c .figure .ensures),
 )
 
 returns : tie.Need-returns Inv-loop μ-loop

@@ -1,10 +1,31 @@
 -- `line` is four fields, each read or refused: the definition at each of the five ways out.
-use Rattle.text.specs.Lines.{lineAt, andThen}
+use Rattle.text.specs.declared.Number.the-variants.{Value}
+use Rattle.text.specs.Lines.{fieldAt, lineAt, andThen, space}
 use Rattle.sheet.proofs.Signed.{read-back}
-use mathlib.Core.Path.{sym, _∙_}
+use Prim.Native.Nat.{ℕ}
+use mathlib.Core.List.{List}
+use mathlib.Core.Path.{_≡_, sym, _∙_}
 use borrow.Author.Needs.{needs}
 use Rattle.text.proofs.Cursor.line.Statement.{statement}
 use Rattle.text.proofs.Cursor.line.Tie as tie
+
+abbrev text : tie.After-known-told → List ℕ
+text a = a .before .before .before .before .before .args .text .now
+
+-- The first three fields, each at the step after it was read.
+tail-x-read : (a : tie.After-known-told)
+    → fieldAt (text a) space (a .before .before .before .before .before .args .self .at) ≡ Value (a .before .tail-x .given .0 .0) (a .before .tail-x .given .0 .1 .0)
+tail-x-read a = sym (a .before .before .before .field .ensures) ∙ a .before .tail-x .given .1
+
+tail-y-read : (b : tie.After-known-told2)
+    → let a = b .before .before .before .before in
+    fieldAt (text a) space (a .before .tail-x .given .0 .1 .0 .at) ≡ Value (b .before .tail-y .given .0 .0) (b .before .tail-y .given .0 .1 .0)
+tail-y-read b = sym (b .before .before .before .field2 .ensures) ∙ b .before .tail-y .given .1
+
+head-x-read : (d : tie.After-known-told3)
+    → let b = d .before .before .before .before in
+    fieldAt (text (b .before .before .before .before)) space (b .before .tail-y .given .0 .1 .0 .at) ≡ Value (d .before .head-x .given .0 .0) (d .before .head-x .given .0 .1 .0)
+head-x-read d = sym (d .before .before .before .field3 .ensures) ∙ d .before .head-x .given .1
 
 field-requires : tie.Need-field-requires
 field-requires c κs = search needs
@@ -30,11 +51,7 @@ enum-told-2 c = search needs
 
 returns-2 : tie.Need-returns-2
 unfolding lineAt andThen
-returns-2 c =
-    rw (
-      sym (c .before .before .before .before .before .before .field .ensures) ∙ c .before .before .before .before .tail-x .given .1,
-      sym (c .before .before .field2 .ensures) ∙ c .enum-told2 .given .1,
-    )
+returns-2 c = rw (tail-x-read (c .before .before .before), sym (c .before .before .field2 .ensures) ∙ c .enum-told2 .given .1)
 
 field-requires-3 : tie.Need-field-requires-3
 field-requires-3 c κs = search needs
@@ -48,11 +65,8 @@ enum-told-3 c = search needs
 returns-3 : tie.Need-returns-3
 unfolding lineAt andThen
 returns-3 c =
-    rw (
-      sym (c .before .before .before .before .before .before .before .before .before .before .field .ensures) ∙ c .before .before .before .before .before .before .before .before .tail-x .given .1,
-      sym (c .before .before .before .before .before .before .field2 .ensures) ∙ c .before .before .before .before .tail-y .given .1,
-      sym (c .before .before .field3 .ensures) ∙ c .enum-told3 .given .1,
-    )
+    let b = c .before .before .before in
+    rw (tail-x-read (b .before .before .before .before), tail-y-read b, sym (c .before .before .field3 .ensures) ∙ c .enum-told3 .given .1)
 
 field-requires-4 : tie.Need-field-requires-4
 field-requires-4 c κs = search needs
@@ -66,25 +80,26 @@ enum-told-4 c = search needs
 returns-4 : tie.Need-returns-4
 unfolding lineAt andThen
 returns-4 c =
-    rw (
-      sym (c .before .before .before .before .before .before .before .before .before .before .before .before .before .before .field .ensures) ∙ c .before .before .before .before .before .before .before .before .before .before .before .before .tail-x .given .1,
-      sym (c .before .before .before .before .before .before .before .before .before .before .field2 .ensures) ∙ c .before .before .before .before .before .before .before .before .tail-y .given .1,
-      sym (c .before .before .before .before .before .before .field3 .ensures) ∙ c .before .before .before .before .head-x .given .1,
-      sym (c .before .before .field4 .ensures) ∙ c .enum-told4 .given .1,
-    )
+    let d = c .before .before .before in
+    let b = d .before .before .before .before in
+    rw (tail-x-read (b .before .before .before .before), tail-y-read b, head-x-read d, sym (c .before .before .field4 .ensures) ∙ c .enum-told4 .given .1)
 
 returns-5 : tie.Need-returns-5
 unfolding lineAt andThen
-returns-5 c = rw (
-  read-back _ (c .before .before .before .before .before .before .before .before .before .before .before .before .known-told .given .0 .1),
-  read-back _ (c .before .before .before .before .before .before .before .before .known-told2 .given .0 .1),
-  read-back _ (c .before .before .before .before .known-told3 .given .0 .1),
-  read-back _ (c .known-told4 .given .0 .1),
-  sym (c .before .before .before .before .before .before .before .before .before .before .before .before .before .before .before .field .ensures) ∙ c .before .before .before .before .before .before .before .before .before .before .before .before .before .tail-x .given .1,
-  sym (c .before .before .before .before .before .before .before .before .before .before .before .field2 .ensures) ∙ c .before .before .before .before .before .before .before .before .before .tail-y .given .1,
-  sym (c .before .before .before .before .before .before .before .field3 .ensures) ∙ c .before .before .before .before .before .head-x .given .1,
-  sym (c .before .before .before .field4 .ensures) ∙ c .before .head-y .given .1,
-)
+returns-5 c =
+    let d = c .before .before .before .before in
+    let b = d .before .before .before .before in
+    let a = b .before .before .before .before in
+    rw (
+      read-back (a .before .tail-x .given .0 .0) (a .known-told .given .0 .1),
+      read-back (b .before .tail-y .given .0 .0) (b .known-told2 .given .0 .1),
+      read-back (d .before .head-x .given .0 .0) (d .known-told3 .given .0 .1),
+      read-back (c .before .head-y .given .0 .0) (c .known-told4 .given .0 .1),
+      tail-x-read a,
+      tail-y-read b,
+      head-x-read d,
+      sym (c .before .before .before .field4 .ensures) ∙ c .before .head-y .given .1,
+    )
 
 pub line-spec : {M : Type 1} → statement M
 line-spec =

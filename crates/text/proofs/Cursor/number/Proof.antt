@@ -1,5 +1,5 @@
 -- `number` goes by what its parts found: no numeral, or one with at most seven digits, which stands inside the text and fits.
-use Rattle.text.proofs.Numerals.{no-number, number-few, number-stands, number-small, a-number}
+use Rattle.text.proofs.Numerals.{IsNumber, no-number, is-number, a-number}
 use borrow.Author.Tests.{not-true, not-false}
 use native.Mathlib.Omega.{arith}
 use mathlib.Core.Path.{sym, _∙_}
@@ -31,50 +31,32 @@ returns c =
     (c .before .before .byte-at .ensures)
     (sym (c .before .is-numeral .ensures) ∙ not-true _ (c .if1 .taken))
 
-value-at-requires : tie.Need-value-at-requires
-value-at-requires c κs =
-    number-few _ _
+numeral : (c : tie.Else1)
+    → IsNumber
+    (c .before .before .before .before .before .before .before .args .text .now)
+    (c .before .before .before .before .before .before .before .args .self .at)
+    (c .before .before .before .before .before .minus-at .result)
+    (c .before .before .before .before .digits-at .result)
+    (c .before .before .before .digits-from .result)
+numeral c =
+    is-number _ _
     (c .before .before .before .before .before .minus-at .ensures)
     (c .before .before .before .before .digits-at .ensures)
     (c .before .before .before .digits-from .ensures)
     (c .before .before .byte-at .ensures)
     (sym (c .before .is-numeral .ensures) ∙ not-false _ (c .if1 .left))
 
+value-at-requires : tie.Need-value-at-requires
+value-at-requires c κs = numeral c .few
+
 with-sign-requires : tie.Need-with-sign-requires
-with-sign-requires c κs =
-    omega (
-      arith,
-      number-small _ _
-          (c .before .before .before .before .before .before .minus-at .ensures)
-          (c .before .before .before .before .before .digits-at .ensures)
-          (c .before .before .before .before .digits-from .ensures)
-          (c .before .before .before .byte-at .ensures)
-          (sym (c .before .before .is-numeral .ensures) ∙ not-false _ (c .before .if1 .left))
-          (c .value-at .ensures),
-    )
+with-sign-requires c κs = omega (arith, numeral (c .before) .small, c .value-at .ensures)
 
 add-t12 : tie.Need-add-t12
-add-t12 c =
-    omega (
-      arith,
-      number-stands _ _
-          (c .before .before .before .before .before .before .before .minus-at .ensures)
-          (c .before .before .before .before .before .before .digits-at .ensures)
-          (c .before .before .before .before .before .digits-from .ensures)
-          (c .before .before .before .before .byte-at .ensures)
-          (sym (c .before .before .before .is-numeral .ensures) ∙ not-false _ (c .before .before .if1 .left)),
-    )
+add-t12 c = omega (arith, numeral (c .before .before) .stands)
 
 returns-2 : tie.Need-returns-2
-returns-2 c =
-    a-number _ _
-    (c .before .before .before .before .before .before .before .minus-at .ensures)
-    (c .before .before .before .before .before .before .digits-at .ensures)
-    (c .before .before .before .before .before .digits-from .ensures)
-    (c .before .before .before .before .byte-at .ensures)
-    (sym (c .before .before .before .is-numeral .ensures) ∙ not-false _ (c .before .before .if1 .left))
-    (c .before .value-at .ensures)
-    (c .with-sign .ensures)
+returns-2 c = a-number (numeral (c .before .before)) (c .before .value-at .ensures) (c .with-sign .ensures)
 
 pub number-spec : {M : Type 1} → statement M
 number-spec =
