@@ -1,5 +1,5 @@
--- A whole text: its lines to the very end, the limits, the room, and what reading it answers and writes. A line begins at the front or after a newline, and a last
--- line that no newline ends is a line too. The first malformed line is the first number below the number of lines that passes a test.
+-- A whole text: its lines to the very end, the limits, the room, and what reading it answers and writes. A line begins at the front or after a newline,
+-- and a last line that no newline ends is a line too. The first malformed line is the first number below the number of lines that passes a test.
 use Prim.Native.Nat.{ℕ, zero, suc, _+_, _-_, _*_, _≤_, _<_}
 use mathlib.Core.Path.{_≡_}
 use mathlib.Core.Bool.{Bool, cond, not, _&&_, _||_}
