@@ -14,56 +14,102 @@ use std::process::Command;
 use rivals::{Desk, Times};
 use sheets::{Shape, SHAPES, SIZES};
 
-/// What the table shows.
-const HEAD: &str = "\
-Nanoseconds an edge, the best of many runs. Engine, witness and hash map check the
-same refusals; the engine and the witness clear and fill all that is lent, with as
-many rows as the sheet's peak. The witness's sweeps are timed once more without its
-checks. Growth is the engine's time an edge beside that of the shape's first line.";
+/// What the first table shows.
+const NUMBERING: &str = "\
+Numbering, in nanoseconds an edge, the best of many runs. Engine, witness and hash
+map check the same refusals; the engine and the witness clear and fill all that is
+lent, with as many rows as the sheet's peak. The witness's sweeps are timed once more
+without its checks. Growth is the engine's time an edge beside that of the shape's
+first line.
+
+| sheet | edges | peak | engine | witness | its sweeps | hash map | engine / witness | engine / its sweeps | engine / hash map | growth |
+|---|--:|--:|--:|--:|--:|--:|--:|--:|--:|--:|";
+
+/// What the second table shows.
+const TURN_LISTS: &str = "\
+The turn list of the same numberings, in nanoseconds an edge; both check refusals 11
+to 14.
+
+| sheet | edges | engine | witness | engine / witness | growth |
+|---|--:|--:|--:|--:|--:|";
+
+/// What was measured of one sheet.
+struct Measured {
+    name: &'static str,
+    edges: usize,
+    peak: usize,
+    times: Times,
+}
 
 fn main() {
     println!("{}\n", machine());
-    println!("{}\n", HEAD);
-    println!("| sheet | edges | peak | engine | witness | its sweeps | hash map | turn list | engine / witness | engine / its sweeps | engine / hash map | growth |");
-    println!("|---|--:|--:|--:|--:|--:|--:|--:|--:|--:|--:|--:|");
-    for shape in &SHAPES {
-        measure_shape(shape);
+    let shapes: Vec<Vec<Measured>> = SHAPES.iter().map(measure_shape).collect();
+    println!("{}", NUMBERING);
+    for shape in &shapes {
+        shape
+            .iter()
+            .for_each(|line| print_numbering(line, &shape[0]));
+    }
+    println!("\n{}", TURN_LISTS);
+    for shape in &shapes {
+        shape.iter().for_each(|line| print_turns(line, &shape[0]));
     }
     measure_rows();
 }
 
-/// A line of the table for every size of a shape.
-fn measure_shape(shape: &Shape) {
-    let mut smallest = None;
-    for edges in SIZES {
-        let sheet = shape.sheet(edges);
+/// A shape in all sizes.
+fn measure_shape(shape: &Shape) -> Vec<Measured> {
+    let measure = |edges: &usize| {
+        let sheet = shape.sheet(*edges);
         let rows = outline::rows_enough(&sheet);
-        let mut desk = Desk::new(sheet, rows);
-        let peak = desk.compare();
-        let mut desk = Desk::new(shape.sheet(edges), peak);
-        let times = desk.time();
-        let an_edge = times.engine / desk.count() as f64;
-        let growth = an_edge / *smallest.get_or_insert(an_edge);
-        print_line(shape.name, desk.count(), peak, &times, growth);
+        let peak = Desk::new(sheet, rows).compare();
+        let mut desk = Desk::new(shape.sheet(*edges), peak);
+        desk.compare();
+        Measured {
+            name: shape.name,
+            edges: desk.count(),
+            peak,
+            times: desk.time(),
+        }
+    };
+    SIZES.iter().map(measure).collect()
+}
+
+impl Measured {
+    /// A time for one of its edges.
+    fn an_edge(&self, time: f64) -> f64 {
+        time / self.edges as f64
     }
 }
 
-fn print_line(name: &str, edges: usize, peak: usize, times: &Times, growth: f64) {
-    let an_edge = |time: f64| time / edges as f64;
+fn print_numbering(line: &Measured, first: &Measured) {
+    let times = &line.times;
     println!(
-        "| {} | {} | {} | {:.1} | {:.1} | {:.1} | {:.1} | {:.1} | {:.2} | {:.2} | {:.2} | {:.2} |",
-        name,
-        edges,
-        peak,
-        an_edge(times.engine),
-        an_edge(times.witness),
-        an_edge(times.sweeps),
-        an_edge(times.hashed),
-        an_edge(times.turns),
+        "| {} | {} | {} | {:.1} | {:.1} | {:.1} | {:.1} | {:.2} | {:.2} | {:.2} | {:.2} |",
+        line.name,
+        line.edges,
+        line.peak,
+        line.an_edge(times.engine),
+        line.an_edge(times.witness),
+        line.an_edge(times.sweeps),
+        line.an_edge(times.hashed),
         times.engine / times.witness,
         times.engine / times.sweeps,
         times.engine / times.hashed,
-        growth
+        line.an_edge(times.engine) / first.an_edge(first.times.engine)
+    );
+}
+
+fn print_turns(line: &Measured, first: &Measured) {
+    let times = &line.times;
+    println!(
+        "| {} | {} | {:.1} | {:.1} | {:.2} | {:.2} |",
+        line.name,
+        line.edges,
+        line.an_edge(times.turns),
+        line.an_edge(times.witness_turns),
+        times.turns / times.witness_turns,
+        line.an_edge(times.turns) / first.an_edge(first.times.turns)
     );
 }
 

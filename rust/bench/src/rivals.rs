@@ -33,6 +33,8 @@ pub struct Times {
     pub hashed: f64,
     /// The engine's turn list.
     pub turns: f64,
+    /// The witness's turn list.
+    pub witness_turns: f64,
 }
 
 impl Desk {
@@ -94,6 +96,9 @@ impl Desk {
             }),
             turns: best(|| {
                 self.engine_turns();
+            }),
+            witness_turns: best(|| {
+                witness::turns(&self.polygons, &self.sequences, &mut self.turns);
             }),
         }
     }
