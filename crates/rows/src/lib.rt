@@ -36,20 +36,17 @@ fn branch_at(rows: &[i32], r: usize, side: Side) -> usize
     }
 }
 
-// Whether a tip with these coordinates is at the place. Tips of a sweep stand at few heights, so x tells them apart sooner and is looked at first.
+// Whether a tip with these coordinates is at the place. Both are compared without a branch between: in a search nearly every tip is another one.
 fn is_at(x: i32, y: i32, place: Point) -> bool
     ensures { λ t. ⌜ t ≡ isSame (record { x = x; y = y }) place ⌝ }
 {
     let place_x = place.x;
     let place_y = place.y;
-    if x != place_x {
-        return false;
-    }
-    y == place_y
+    (y == place_y) & (x == place_x)
 }
 
-// Whether a row is of the level, and its branch on the side is unfinished with its tip at the place. The tip is looked at first: it is nearly always
-// another one, so the way that the search takes past a row can be foreseen.
+// Whether a row is of the level, and its branch on the side is unfinished with its tip at the place. The tip is looked at first: level and finished mark
+// change from row to row, the tip is nearly always another one, so that the way past a row can be foreseen.
 fn has_tip(rows: &[i32], r: usize, level: u32, side: Side, tip: Point) -> bool
     requires { ⌜ HasRow (now rows) r × (level < 2147483647) ⌝ }
     ensures { λ t. ⌜ t ≡ hasTip pointPlaces level side tip (lookRow (now (rows .entry)) r) ⌝ }

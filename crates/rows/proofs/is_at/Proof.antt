@@ -1,25 +1,18 @@
--- `rows::is_at` meets its contract. The bits of x are compared first, then those of y; equal bits are equal numbers.
-use mathlib.Core.Path.{ap}
-use mir.Syntax.{w32}
-use mir.Val.{ofZ}
+-- `rows::is_at` meets its contract: equal bits are equal numbers.
+use mathlib.Core.Bool.{_&&_}
 use Rattle.sheet.specs.Points.{isSame}
-use Rattle.sheet.proofs.Signed.{bits-same, bits-sameZ, sameZ-yes, sameZ-no}
-use Rattle.rows.proofs.Tips.{and-false, and-true}
+use Rattle.sheet.proofs.Signed.{bits-sameZ}
 use Rattle.rows.proofs.is_at.Statement.{statement}
 use Rattle.rows.proofs.is_at.Tie as tie
 
 returns : tie.Need-returns
 unfolding isSame
 returns c =
-    let g = c .before .before .before .args in
-    rw (sameZ-no (g .x) (g .place .x) (λ e. c .if1 .taken (ap (ofZ w32) e)), and-false)
-
-returns-2 : tie.Need-returns-2
-unfolding isSame
-returns-2 c =
-    let g = c .before .before .before .args in
-    let x = bits-same (g .x) (g .place .x) (c .before .before .before .fits .x .sfits) (c .before .before .struct-told .given .0 .1) (c .if1 .left) in
-    rw (sameZ-yes (g .x) (g .place .x) x, and-true) (bits-sameZ (g .y) (g .place .y) (c .before .before .before .fits .y .sfits) (c .before .struct-told2 .given .1 .0 .1))
+    let g = c .before .before .args in
+    let f = c .before .before .fits in
+    let y = bits-sameZ (g .y) (g .place .y) (f .y .sfits) (c .struct-told2 .given .1 .0 .1) in
+    let x = bits-sameZ (g .x) (g .place .x) (f .x .sfits) (c .before .struct-told .given .0 .1) in
+    λ i. y i && x i
 
 pub is-at-spec : {M : Type 1} → statement M
-is-at-spec = tie.close (tie.spec returns returns-2)
+is-at-spec = tie.close (tie.spec returns)
