@@ -206,20 +206,35 @@ fn compile(compiler: &str, source: &Path, program: &Path) -> Option<String> {
     Some(String::from_utf8_lossy(&output.stderr).into_owned())
 }
 
-#[test]
-fn a_c_program_with_the_header() {
+/// What a C program with the header prints, compiled without a complaint.
+fn printed_by(name: &str, program: &str) -> String {
     let folder = PathBuf::from(env!("CARGO_TARGET_TMPDIR"));
-    let (source, program) = (folder.join("header.c"), folder.join("header"));
-    fs::write(&source, C_PROGRAM).unwrap();
+    let (source, compiled) = (folder.join(format!("{}.c", name)), folder.join(name));
+    fs::write(&source, program).unwrap();
     let own = format!("{}-linux-gnu-gcc", std::env::consts::ARCH);
     let complaint = [own.as_str(), "gcc", "cc"]
         .iter()
-        .find_map(|compiler| compile(compiler, &source, &program));
+        .find_map(|compiler| compile(compiler, &source, &compiled));
     assert_eq!(complaint.expect("a C compiler"), "");
-    let mut child = start(&program);
+    let mut child = start(&compiled);
     let mut printed = String::new();
     let mut output = child.stdout.take().unwrap();
     output.read_to_string(&mut printed).unwrap();
     assert!(child.wait().unwrap().success());
+    printed
+}
+
+#[test]
+fn a_c_program_with_the_header() {
+    let printed = printed_by("header", C_PROGRAM);
     assert_eq!(printed, "0 0 1 1 4\n0 0 1\n2 0 1\n1\n");
+}
+
+#[test]
+fn the_c_program_of_the_readme() {
+    let readme = include_str!("../../../README.md");
+    let program = readme.split("```c\n").nth(1).unwrap();
+    let program = program.split("```").next().unwrap();
+    let printed = printed_by("readme", program);
+    assert!(readme.contains(&format!("./a.out\n    {}", printed)));
 }
