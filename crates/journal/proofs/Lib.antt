@@ -1,3 +1,2 @@
 pub mod Signs
-pub mod Zeros
 pub mod Writing

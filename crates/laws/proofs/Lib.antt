@@ -13,3 +13,4 @@ pub mod Halving
 pub mod Filling
 pub mod Moving
 pub mod Sets
+pub mod Zeros

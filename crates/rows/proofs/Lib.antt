@@ -1,7 +1,6 @@
 pub mod Signs
 pub mod Tips
 pub mod Searching
-pub mod Zeros
 pub mod Looking
 pub mod Writing
 pub mod Representing
