@@ -14,3 +14,4 @@ pub mod Filling
 pub mod Moving
 pub mod Sets
 pub mod Zeros
+pub mod Bits

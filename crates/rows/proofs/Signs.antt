@@ -3,15 +3,14 @@ use mathlib.Core.Path.{_≡_, refl, sym, ap, _∙_}
 use mathlib.Core.Bool.{Bool, true, false, not}
 use Prim.Native.Nat.{ℕ, zero, suc, _+_, _-_, _≤_, _<_}
 use native.Mathlib.Omega.{arith}
-use lib.Dec.{T}
-use lib.IntN.{ℤ, pos, negsuc, _-ℤ_, natAbs}
+use lib.IntN.{ℤ, pos, negsuc, _-ℤ_}
 use lib.Signed.{ltZ, nonNeg, mag}
 use mir.Syntax.{w32}
-use mir.Val.{Fits, SFits, toZ, ofZ}
+use mir.Val.{SFits, toZ, ofZ}
 use mir.ValLaws.{toZ-ofZ}
 use borrow.Author.Tests.{lt-ltb, le-ltb, ltb-false}
 use Rattle.laws.proofs.Deciding.{not-both}
-use Rattle.sheet.proofs.Signed.{read-back}
+use Rattle.laws.proofs.Bits.{read-back}
 use Rattle.rows.specs.Layout.{freedNumber}
 
 -- a number of 31 bits is itself as a signed one
@@ -39,31 +38,17 @@ mag-complement : (z : ℤ) → mag (complement z) ≡ mag z
 mag-complement (pos n) = refl
 mag-complement (negsuc n) = refl
 
-finished-as : (z : ℤ) → nonNeg z ≡ false → z ≡ negsuc (mag z)
-finished-as (pos n) h = absurd (not-both refl h)
-finished-as (negsuc n) h = refl
+finished-as : (z : ℤ) → not (nonNeg z) ≡ true → (z ≡ negsuc (mag z)) × (complement z ≡ pos (mag z))
+finished-as (pos n) h = absurd (not-both h refl)
+finished-as (negsuc n) h = (refl, refl)
 
-unfinished-as : (z : ℤ) → nonNeg z ≡ true → z ≡ pos (mag z)
-unfinished-as (pos n) h = refl
-unfinished-as (negsuc n) h = absurd (not-both h refl)
-
-complement-of : (z : ℤ) → nonNeg z ≡ true → complement z ≡ negsuc (mag z)
-complement-of (pos n) h = refl
-complement-of (negsuc n) h = absurd (not-both h refl)
-
-complement-back : (z : ℤ) → nonNeg z ≡ false → complement z ≡ pos (mag z)
-complement-back (pos n) h = absurd (not-both refl h)
-complement-back (negsuc n) h = refl
+unfinished-as : (z : ℤ) → not (nonNeg z) ≡ false → (z ≡ pos (mag z)) × (complement z ≡ negsuc (mag z))
+unfinished-as (pos n) h = (refl, refl)
+unfinished-as (negsuc n) h = absurd (not-both refl h)
 
 module _ (z : ℤ) (f : mag z < 2147483648) where
-  tested : (t : Bool) → ltZ (toZ w32 (ofZ w32 z)) (pos 0) ≡ not t → nonNeg z ≡ t
-  tested t h = opposite (nonNeg z) t (sym (below-zero z) ∙ (rw (read-back z f) at h))
-    where
-      opposite : (a b : Bool) → not a ≡ not b → a ≡ b
-      opposite true true e = refl
-      opposite false false e = refl
-      opposite true false e = sym e
-      opposite false true e = sym e
+  pub tested : {t : Bool} → ltZ (toZ w32 (ofZ w32 z)) (pos 0) ≡ t → not (nonNeg z) ≡ t
+  tested h = sym (below-zero z) ∙ (rw (read-back z f) at h)
 
   less-is : negsuc 0 -ℤ toZ w32 (ofZ w32 z) ≡ complement z
   less-is = rw (read-back z f) (minus-one-minus z)
@@ -76,29 +61,17 @@ module _ (z : ℤ) (f : mag z < 2147483648) where
 
   module _ (h : ltZ (toZ w32 (ofZ w32 z)) (pos 0) ≡ true) where
     pub finished-stays : toZ w32 (ofZ w32 z) ≡ negsuc (mag z)
-    finished-stays = read-back z f ∙ finished-as z (tested false h)
+    finished-stays = read-back z f ∙ finished-as z (tested h) .0
 
-    finished-length : toZ w32 (ofZ w32 (negsuc 0 -ℤ toZ w32 (ofZ w32 z))) ≡ pos (mag z)
-    finished-length = less-back ∙ complement-back z (tested false h)
-
-    pub finished-casts : T (nonNeg (toZ w32 (ofZ w32 (negsuc 0 -ℤ toZ w32 (ofZ w32 z))))) × Fits w32 (natAbs (toZ w32 (ofZ w32 (negsuc 0 -ℤ toZ w32 (ofZ w32 z)))))
-    finished-casts = rw finished-length (tt, record { fits = omega (arith, f) })
-
-    pub finished-value : (natAbs (toZ w32 (ofZ w32 (negsuc 0 -ℤ toZ w32 (ofZ w32 z)))) ≡ mag z) × (natAbs (toZ w32 (ofZ w32 (negsuc 0 -ℤ toZ w32 (ofZ w32 z)))) < 2147483648)
-    finished-value = rw finished-length (refl, f)
+    pub finished-length : toZ w32 (ofZ w32 (negsuc 0 -ℤ toZ w32 (ofZ w32 z))) ≡ pos (mag z)
+    finished-length = less-back ∙ finished-as z (tested h) .1
 
   module _ (h : ltZ (toZ w32 (ofZ w32 z)) (pos 0) ≡ false) where
     pub now-finished : toZ w32 (ofZ w32 (negsuc 0 -ℤ toZ w32 (ofZ w32 z))) ≡ negsuc (mag z)
-    now-finished = less-back ∙ complement-of z (tested true h)
+    now-finished = less-back ∙ unfinished-as z (tested h) .1
 
-    length-read : toZ w32 (ofZ w32 z) ≡ pos (mag z)
-    length-read = read-back z f ∙ unfinished-as z (tested true h)
-
-    pub length-casts : T (nonNeg (toZ w32 (ofZ w32 z))) × Fits w32 (natAbs (toZ w32 (ofZ w32 z)))
-    length-casts = rw length-read (tt, record { fits = omega (arith, f) })
-
-    pub length-value : (natAbs (toZ w32 (ofZ w32 z)) ≡ mag z) × (natAbs (toZ w32 (ofZ w32 z)) < 2147483648)
-    length-value = rw length-read (refl, f)
+    pub length-read : toZ w32 (ofZ w32 z) ≡ pos (mag z)
+    length-read = read-back z f ∙ unfinished-as z (tested h) .0
 
 -- a row in use is freed by a minus, any other is free already
 in-use-freed : (z : ℤ) → ltZ (pos 0) z ≡ true → pos 0 -ℤ z ≡ freedNumber z

@@ -6,14 +6,11 @@ use lib.IntN.{ℤ, pos, negsuc}
 use lib.Signed.{mag}
 use mir.Syntax.{w32}
 use mir.Val.{toZ, ofZ}
-use mir.ValLaws.{toZ-ofZ}
 use lib.Dec.{eqb}
 use native.Mathlib.Omega.{arith}
 use borrow.Author.Tests.{eq-eqb, ne-eqb, eqb-true, eqb-false}
 use Rattle.sheet.specs.Points.{sameZ}
-
-pub read-back : (z : ℤ) → mag z < 2147483648 → toZ w32 (ofZ w32 z) ≡ z
-read-back z h = toZ-ofZ w32 z (record { sfits = h })
+pub use Rattle.laws.proofs.Bits.{read-back}
 
 pub bits-same : (a b : ℤ) → mag a < 2147483648 → mag b < 2147483648 → ofZ w32 a ≡ ofZ w32 b → a ≡ b
 bits-same a b ha hb e = sym (read-back a ha) ∙ ap (toZ w32) e ∙ read-back b hb

@@ -3,7 +3,7 @@ use native.Mathlib.Omega.{arith}
 use mathlib.Core.Path.{_≡_, ap, _∙_}
 use lib.IntN.{pos}
 use Rattle.journal.specs.Layout.{fitting}
-use Rattle.journal.proofs.Signs.{read-back}
+use Rattle.laws.proofs.Bits.{read-back}
 use borrow.Author.Needs.{needs}
 use Rattle.journal.proofs.fit.Statement.{statement}
 use Rattle.journal.proofs.fit.Tie as tie

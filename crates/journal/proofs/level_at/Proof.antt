@@ -1,7 +1,6 @@
 -- `journal::level_at` meets its contract. The first number of the record.
-use mathlib.Core.Path.{_∙_, ap}
-use Rattle.journal.specs.Layout.{naturalPart, readRecord}
-use Rattle.journal.proofs.Signs.{read-back}
+use Rattle.journal.specs.Layout.{readRecord}
+use Rattle.laws.proofs.Bits.{read-back}
 use borrow.Author.Needs.{needs}
 use Rattle.journal.proofs.level_at.Statement.{statement}
 use Rattle.journal.proofs.level_at.Tie as tie
@@ -20,7 +19,7 @@ natural-requires c κs = search needs
 
 returns : tie.Need-returns
 unfolding readRecord
-returns c = c .natural .ensures .0 ∙ ap naturalPart (read-back _ (c .before .natural-arg .given))
+returns c = rw (read-back _ (c .before .natural-arg .given)) at (c .natural .ensures .0)
 
 pub level-at-spec : {M : Type 1} → statement M
 level-at-spec =

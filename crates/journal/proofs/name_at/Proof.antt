@@ -1,7 +1,6 @@
 -- `journal::name_at` meets its contract. The second number of the record.
-use mathlib.Core.Path.{_∙_, ap}
-use Rattle.journal.specs.Layout.{naturalPart, readRecord}
-use Rattle.journal.proofs.Signs.{read-back}
+use Rattle.journal.specs.Layout.{readRecord}
+use Rattle.laws.proofs.Bits.{read-back}
 use borrow.Author.Needs.{needs}
 use Rattle.journal.proofs.name_at.Statement.{statement}
 use Rattle.journal.proofs.name_at.Tie as tie
@@ -26,7 +25,7 @@ cast-result c = search needs
 
 returns : tie.Need-returns
 unfolding readRecord
-returns c = (c .natural .ensures .0 ∙ ap naturalPart (read-back _ (c .before .natural-arg .given)), c .natural .ensures .1)
+returns c = rw (read-back _ (c .before .natural-arg .given)) at (c .natural .ensures)
 
 pub name-at-spec : {M : Type 1} → statement M
 name-at-spec =

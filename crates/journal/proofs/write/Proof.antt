@@ -1,9 +1,10 @@
 -- `journal::write` meets its contract. Four stores, one behind the other, are a run of stores.
-use Prim.Native.Nat.{suc, _+_, _*_}
-use mathlib.Core.Path.{_≡_}
+use Prim.Native.Nat.{_*_}
+use mathlib.Core.List.{[], _∷_}
 use native.Mathlib.Omega.{arith}
 use lib.ListN.{length-set}
-use Rattle.journal.proofs.Signs.{read-back}
+use Rattle.laws.proofs.Bits.{read-back}
+use Rattle.laws.proofs.Sets.{stores-are-sets}
 use borrow.Author.Needs.{needs}
 use Rattle.journal.proofs.write.Statement.{statement}
 use Rattle.journal.proofs.write.Tie as tie
@@ -49,19 +50,14 @@ same-length c = search needs
 
 returns : tie.Need-returns
 returns c =
-    let b = 4 * c .args .k in
-    let one : b + 1 ≡ suc b = omega arith in
-    let two : b + 2 ≡ suc (suc b) = omega arith in
-    let three : b + 3 ≡ suc (suc (suc b)) = omega arith in
+    let a = c .args in
     rw (
-      one,
-      two,
-      three,
-      read-back (c .args .level) (c .fits .level .sfits),
-      read-back (c .args .name) (c .fits .name .sfits),
-      read-back (c .args .row) (c .fits .row .sfits),
-      read-back (c .args .offset) (c .fits .offset .sfits),
+      read-back (a .level) (c .fits .level .sfits),
+      read-back (a .name) (c .fits .name .sfits),
+      read-back (a .row) (c .fits .row .sfits),
+      read-back (a .offset) (c .fits .offset .sfits),
     )
+    (stores-are-sets (a .journal .now) (4 * a .k) (a .level) (a .name ∷ a .row ∷ a .offset ∷ []))
 
 pub write-spec : {M : Type 1} → statement M
 write-spec =

@@ -1,8 +1,7 @@
 -- `journal::write_attached` meets its contract. The record's numbers are what `writtenIn` stores.
-use Rattle.journal.specs.Layout.{fitting, rowNumber, writtenIn}
-use native.Mathlib.Omega.{arith}
-use lib.IntN.{pos}
-use Rattle.journal.proofs.Signs.{read-back}
+use Rattle.journal.specs.Layout.{rowNumber, writtenIn}
+use Rattle.laws.proofs.Bits.{read-back}
+use Rattle.journal.proofs.Signs.{fitted}
 use borrow.Author.Needs.{needs}
 use Rattle.journal.proofs.write_attached.Statement.{statement}
 use Rattle.journal.proofs.write_attached.Tie as tie
@@ -25,16 +24,13 @@ same-length c = search needs
 returns : tie.Need-returns
 unfolding writtenIn rowNumber
 returns c =
-    let a = c .before .before .before .before .before .before .args in
+    let entry = c .before .before .before .before .before .before in
     rw (
       c .before .write .ensures,
-      c .before .before .before .before .before .fit .ensures,
-      c .before .before .before .before .fit2 .ensures,
-      c .before .before .before .fit3 .ensures,
-      read-back (pos (fitting (a .level))) (omega arith),
-      read-back (pos (fitting (a .name))) (omega arith),
-      read-back (pos (fitting (a .row))) (omega arith),
-      read-back (a .offset) (c .before .before .before .before .before .before .fits .offset .sfits),
+      fitted (entry .args .level) (c .before .before .before .before .before .fit .ensures),
+      fitted (entry .args .name) (c .before .before .before .before .fit2 .ensures),
+      fitted (entry .args .row) (c .before .before .before .fit3 .ensures),
+      read-back (entry .args .offset) (entry .fits .offset .sfits),
     )
 
 pub write-attached-spec : {M : Type 1} → statement M

@@ -1,8 +1,7 @@
 -- `journal::write_closing` meets its contract. The record's numbers are what `writtenIn` stores, with -1 for the row.
-use Rattle.journal.specs.Layout.{fitting, rowNumber, writtenIn}
-use native.Mathlib.Omega.{arith}
-use lib.IntN.{pos}
-use Rattle.journal.proofs.Signs.{read-back}
+use Rattle.journal.specs.Layout.{rowNumber, writtenIn}
+use Rattle.laws.proofs.Bits.{read-back}
+use Rattle.journal.proofs.Signs.{fitted}
 use borrow.Author.Needs.{needs}
 use Rattle.journal.proofs.write_closing.Statement.{statement}
 use Rattle.journal.proofs.write_closing.Tie as tie
@@ -22,14 +21,12 @@ same-length c = search needs
 returns : tie.Need-returns
 unfolding writtenIn rowNumber
 returns c =
-    let a = c .before .before .before .before .before .args in
+    let entry = c .before .before .before .before .before in
     rw (
       c .before .write .ensures,
-      c .before .before .before .before .fit .ensures,
-      c .before .before .before .fit2 .ensures,
-      read-back (pos (fitting (a .level))) (omega arith),
-      read-back (pos (fitting (a .name))) (omega arith),
-      read-back (a .offset) (c .before .before .before .before .before .fits .offset .sfits),
+      fitted (entry .args .level) (c .before .before .before .before .fit .ensures),
+      fitted (entry .args .name) (c .before .before .before .fit2 .ensures),
+      read-back (entry .args .offset) (entry .fits .offset .sfits),
     )
 
 pub write-closing-spec : {M : Type 1} → statement M

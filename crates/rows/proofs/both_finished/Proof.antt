@@ -1,11 +1,10 @@
 -- `rows::both_finished` meets its contract. The two length numbers are below 0.
-use Rattle.sheet.proofs.Signed.{read-back}
 use Rattle.rows.proofs.Looking.{both-is}
-use Rattle.rows.proofs.Signs.{below-zero}
-use mathlib.Core.Path.{_∙_, sym}
+use Rattle.rows.proofs.Signs.{tested}
+use mathlib.Core.Path.{refl, sym}
 use Prim.Native.Nat.{_+_, _*_}
-use lib.ListN.{getD}
 use lib.IntN.{pos}
+use lib.ListN.{getD}
 use borrow.Author.Needs.{needs}
 use Rattle.rows.proofs.both_finished.Statement.{statement}
 use Rattle.rows.proofs.both_finished.Tie as tie
@@ -37,16 +36,12 @@ shared-slice-copy-out-result c = search needs
 returns : tie.Need-returns
 returns c =
     let a = c .before .before .before .args in
-    let n = getD (a .rows .now) (8 * a .r + 3) (pos 0) in
-    let e = sym (below-zero n) ∙ (rw (read-back n (c .before .before .if12 .given)) at (c .before .if1 .taken)) in
-    rw (both-is (a .rows .now) (a .r), e, read-back _ (c .result .given)) (below-zero (getD (a .rows .now) (8 * a .r + 6) (pos 0)))
+    rw (both-is (a .rows .now) (a .r), tested _ (c .before .before .if12 .given) (c .before .if1 .taken)) (sym (tested (getD (a .rows .now) (8 * a .r + 6) (pos 0)) (c .result .given) refl))
 
 returns-2 : tie.Need-returns-2
 returns-2 c =
     let a = c .before .before .args in
-    let n = getD (a .rows .now) (8 * a .r + 3) (pos 0) in
-    let e = sym (below-zero n) ∙ (rw (read-back n (c .before .if12 .given)) at (c .if1 .left)) in
-    rw (both-is (a .rows .now) (a .r), e) (c .if1 .left)
+    rw (both-is (a .rows .now) (a .r), tested _ (c .before .if12 .given) (c .if1 .left)) (c .if1 .left)
 
 pub both-finished-spec : {M : Type 1} → statement M
 both-finished-spec =

@@ -1,10 +1,9 @@
 -- `rows::finish` meets its contract. The number read is turned and stored again.
 use Rattle.rows.specs.Layout.{finishedIn}
-use Rattle.sheet.proofs.Signed.{read-back}
+use Rattle.laws.proofs.Bits.{stored-again}
 use Prim.Native.Nat.{_+_}
-use lib.ListN.{getD}
 use lib.Signed.{mag}
-use lib.IntN.{pos, negsuc}
+use lib.IntN.{negsuc}
 use borrow.Author.Needs.{needs}
 use Rattle.rows.proofs.finish.Statement.{statement}
 use Rattle.rows.proofs.finish.Tie as tie
@@ -39,9 +38,10 @@ same-length c = search needs
 returns : tie.Need-returns
 unfolding finishedIn
 returns c =
-    let z = getD (c .before .before .before .before .args .rows .now) (c .before .before .branch-at .result + 2) (pos 0) in
-    let f = c .before .finished-number-arg .given in
-    rw (c .finished-number .ensures, read-back z f, read-back (negsuc (mag z)) f, c .before .before .branch-at .ensures .0)
+    let a = c .before .before .before .before .args in
+    let b = c .before .before .branch-at in
+    rw (← b .ensures .0)
+    (stored-again (λ z. negsuc (mag z)) (λ z h. h) (a .rows .now) (b .result + 2) (c .before .finished-number-arg .given) (c .finished-number .ensures))
 
 pub finish-spec : {M : Type 1} → statement M
 finish-spec =

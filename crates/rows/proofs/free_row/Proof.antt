@@ -1,9 +1,7 @@
 -- `rows::free_row` meets its contract. The number read is turned and stored again.
 use Rattle.rows.specs.Layout.{freedNumber, freedIn}
-use Rattle.sheet.proofs.Signed.{read-back}
+use Rattle.laws.proofs.Bits.{stored-again}
 use Prim.Native.Nat.{_*_}
-use lib.ListN.{getD}
-use lib.IntN.{pos}
 use Rattle.rows.proofs.Signs.{freed-small}
 use borrow.Author.Needs.{needs}
 use Rattle.rows.proofs.free_row.Statement.{statement}
@@ -34,9 +32,7 @@ returns : tie.Need-returns
 unfolding freedIn
 returns c =
     let a = c .before .before .args in
-    let z = getD (a .rows .now) (8 * a .r) (pos 0) in
-    let f = c .before .freed-number-arg .given in
-    rw (c .freed-number .ensures, read-back z f, read-back (freedNumber z) (freed-small z f))
+    stored-again freedNumber freed-small (a .rows .now) (8 * a .r) (c .before .freed-number-arg .given) (c .freed-number .ensures)
 
 pub free-row-spec : {M : Type 1} → statement M
 free-row-spec =

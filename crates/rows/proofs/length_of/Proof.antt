@@ -1,5 +1,5 @@
 -- `rows::length_of` meets its contract. The branch's third number tells the length.
-use Rattle.sheet.proofs.Signed.{read-back}
+use Rattle.laws.proofs.Bits.{read-back}
 use Rattle.rows.proofs.Looking.{length-is}
 use borrow.Author.Needs.{needs}
 use Rattle.rows.proofs.length_of.Statement.{statement}

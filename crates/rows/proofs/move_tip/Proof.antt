@@ -1,10 +1,11 @@
 -- `rows::move_tip` meets its contract. Three stores, one behind the other, are the run of stores of `movedIn`.
 use Rattle.rows.specs.Layout.{movedIn}
-use Rattle.sheet.proofs.Signed.{read-back}
+use Rattle.laws.proofs.Bits.{read-back}
+use Rattle.laws.proofs.Sets.{stores-are-sets}
 use lib.ListN.{length-set}
 use native.Mathlib.Omega.{arith}
-use Prim.Native.Nat.{suc, _+_}
-use mathlib.Core.Path.{_≡_}
+use mathlib.Core.List.{[], _∷_}
+use lib.IntN.{pos}
 use Rattle.rows.proofs.Signs.{plain-read}
 use borrow.Author.Needs.{needs}
 use Rattle.rows.proofs.move_tip.Statement.{statement}
@@ -47,10 +48,13 @@ returns : tie.Need-returns
 unfolding movedIn
 returns c =
     let a = c .before .before .before .before .args in
-    let b = c .before .before .branch-at .result in
-    let one : b + 1 ≡ suc b = omega arith in
-    let two : b + 2 ≡ suc (suc b) = omega arith in
-    rw (← c .before .before .branch-at .ensures .0, one, two, read-back (a .tip .x) (c .before .struct-told .given .0 .1), read-back (a .tip .y) (c .struct-told2 .given .1 .0 .1), plain-read (a .length) (c .before .before .before .before .pre .1))
+    rw (
+      ← c .before .before .branch-at .ensures .0,
+      read-back (a .tip .x) (c .before .struct-told .given .0 .1),
+      read-back (a .tip .y) (c .struct-told2 .given .1 .0 .1),
+      plain-read (a .length) (c .before .before .before .before .pre .1),
+    )
+    (stores-are-sets (a .rows .now) (c .before .before .branch-at .result) (a .tip .x) (a .tip .y ∷ pos (a .length) ∷ []))
 
 pub move-tip-spec : {M : Type 1} → statement M
 move-tip-spec =

@@ -1,10 +1,11 @@
 -- `rows::open_row` meets its contract. Eight stores, one behind the other, are the run of stores of `openedIn`.
 use Rattle.rows.specs.Layout.{openedIn}
-use Rattle.sheet.proofs.Signed.{read-back}
+use Rattle.laws.proofs.Bits.{read-back}
+use Rattle.laws.proofs.Sets.{stores-are-sets}
 use lib.ListN.{length-set}
 use native.Mathlib.Omega.{arith}
-use Prim.Native.Nat.{suc, _+_, _*_}
-use mathlib.Core.Path.{_≡_}
+use Prim.Native.Nat.{_+_, _*_}
+use mathlib.Core.List.{[], _∷_}
 use lib.IntN.{pos}
 use Rattle.rows.proofs.Tips.{mark-is, mark-fits}
 use borrow.Author.Needs.{needs}
@@ -96,27 +97,13 @@ returns : tie.Need-returns
 unfolding openedIn
 returns c =
     let a = c .before .before .args in
-    let b = 8 * a .r in
-    let one : b + 1 ≡ suc b = omega arith in
-    let two : b + 2 ≡ suc (suc b) = omega arith in
-    let three : b + 3 ≡ suc (suc (suc b)) = omega arith in
-    let four : b + 4 ≡ suc (suc (suc (suc b))) = omega arith in
-    let five : b + 5 ≡ suc (suc (suc (suc (suc b)))) = omega arith in
-    let six : b + 6 ≡ suc (suc (suc (suc (suc (suc b))))) = omega arith in
-    let seven : b + 7 ≡ suc (suc (suc (suc (suc (suc (suc b)))))) = omega arith in
     rw (
       mark-is (a .level) (c .before .before .pre .1),
       read-back (pos (a .level + 1)) (omega (arith, c .before .before .pre .1)),
       read-back (a .tip .x) (c .before .struct-told .given .0 .1),
       read-back (a .tip .y) (c .struct-told2 .given .1 .0 .1),
-      one,
-      two,
-      three,
-      four,
-      five,
-      six,
-      seven,
     )
+    (stores-are-sets (a .rows .now) (8 * a .r) (pos (a .level + 1)) (a .tip .x ∷ a .tip .y ∷ pos 0 ∷ a .tip .x ∷ a .tip .y ∷ pos 0 ∷ pos 0 ∷ []))
 
 pub open-row-spec : {M : Type 1} → statement M
 open-row-spec =

@@ -1,5 +1,5 @@
 -- `rows::tip_of` meets its contract. The branch's first two numbers are the tip.
-use Rattle.sheet.proofs.Signed.{read-back}
+use Rattle.laws.proofs.Bits.{read-back}
 use Rattle.rows.proofs.Looking.{tip-is}
 use borrow.Author.Needs.{needs}
 use Rattle.rows.proofs.tip_of.Statement.{statement}
