@@ -1,1 +1,2 @@
+-- How records lie in their slice, which the contracts of journal speak of.
 pub mod Layout

@@ -11,7 +11,7 @@ ghost use Rattle.steps.specs.Rows.{inRow, closing};
 ghost use Rattle.journal.specs.Layout.{recordsIn, HasRecord, fitting, naturalPart, chainIn, chainOf, Short, readRecord, writtenIn};
 
 // How many numbers a record has.
-pub const NUMBERS: usize = 4;
+const NUMBERS: usize = 4;
 
 // How many records a slice has room for.
 pub fn records_in(journal: &[i32]) -> usize
