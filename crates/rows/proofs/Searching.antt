@@ -14,15 +14,15 @@ use mir.Syntax.{w32}
 use mir.Val.{toZ, ofZ}
 use borrow.Author.Tests.{lt-ltb, le-ltb, le-leb, lt-leb, ltb-true, leb-true, leb-false}
 use Rattle.laws.specs.Counting.{first}
+use Rattle.laws.proofs.Bits.{read-back}
 use Rattle.laws.proofs.Deciding.{lt-or-le, not-both, both-true}
 use Rattle.laws.proofs.First.{first-is, first-holds}
+use Rattle.laws.proofs.Tests.{not-not}
 use Rattle.sheet.specs.declared.Point.{Point}
-use Rattle.sheet.proofs.Signed.{read-back}
 use Rattle.steps.specs.declared.Side.{Side}
 use Rattle.steps.specs.declared.Found.the-variants.{At, Nothing}
 use Rattle.steps.specs.SweepUp.{pickFound, foundBelow, hasTip}
 use Rattle.rows.specs.Layout.{pointPlaces, HasRow, lookRow}
-use Rattle.rows.proofs.Tips.{not-not}
 
 -- a search that stops at m, past which no number below n passes
 module _ (p : ℕ → Bool) (n m : ℕ) (l : m ≤ n) where
@@ -38,7 +38,7 @@ module _ (p : ℕ → Bool) (n m : ℕ) (l : m ≤ n) where
       least k h = ⊎-elim (λ a. below k a) (λ a. past k a h) (lt-or-le k m)
 
 -- what is found is below n and passes
-pub found-is : (p : ℕ → Bool) (n r : ℕ) → foundBelow p n ≡ At r → (r < n) × (p r ≡ true)
+found-is : (p : ℕ → Bool) (n r : ℕ) → foundBelow p n ≡ At r → (r < n) × (p r ≡ true)
 unfolding foundBelow
 found-is p n r e = by (ltb (first p n) n) refl e
   where

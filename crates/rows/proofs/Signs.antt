@@ -18,7 +18,7 @@ pub plain-read : (n : ℕ) → n < 2147483648 → toZ w32 n ≡ pos n
 plain-read n h = read-back (pos n) h
 
 -- what a test against 0 says
-pub below-zero : (z : ℤ) → ltZ z (pos 0) ≡ not (nonNeg z)
+below-zero : (z : ℤ) → ltZ z (pos 0) ≡ not (nonNeg z)
 below-zero (pos n) = le-ltb n 0 (omega arith)
 below-zero (negsuc n) = refl
 

@@ -14,30 +14,15 @@ use mir.Syntax.{w32}
 use mir.Val.{SFits, toZ, ofZ}
 use borrow.Author.Tests.{lt-ltb, le-leb, eq-eqb, ne-eqb}
 use Rattle.laws.proofs.Deciding.{eq-or-ne}
+use Rattle.laws.proofs.Tests.{not-not, and-assoc, and-true, and-false}
 use Rattle.sheet.specs.declared.Point.{Point}
 use Rattle.sheet.specs.Points.{sameZ, isSame}
-use Rattle.sheet.proofs.Signed.{read-back, bits-sameZ}
+use Rattle.sheet.proofs.Signed.{bits-sameZ}
 use Rattle.steps.specs.declared.Side.{Side}
 use Rattle.steps.specs.declared.Side.the-variants.{Rising, Falling}
 use Rattle.steps.specs.SweepUp.{hasTip}
 use Rattle.rows.specs.Layout.{pointPlaces, HasRow, branchAt, levelIn, lookBranch, lookRow}
-use Rattle.rows.proofs.Signs.{plain-read, below-zero}
-
-pub and-false : (a : Bool) → (a && false) ≡ false
-and-false true = refl
-and-false false = refl
-
-pub and-true : (a : Bool) → (a && true) ≡ a
-and-true true = refl
-and-true false = refl
-
-pub not-not : (a : Bool) → not (not a) ≡ a
-not-not true = refl
-not-not false = refl
-
-and-assoc : (a b c : Bool) → (a && (b && c)) ≡ ((a && b) && c)
-and-assoc true b c = refl
-and-assoc false b c = refl
+use Rattle.rows.proofs.Signs.{plain-read, tested}
 
 -- in use and of the level: the first number is the level and 1
 level-number : (z : ℤ) (level : ℕ) → (ltZ (pos 0) z && eqb (levelIn z) level) ≡ sameZ z (pos (level + 1))
@@ -77,7 +62,7 @@ module _ (s : List ℤ) (r level : ℕ) (side : Side) (tip : Point) (has : HasRo
 
     module _ (f : mag (getD s (b + 2) (pos 0)) < 2147483648) where
       sign : (t : Bool) → ltZ (toZ w32 (ofZ w32 (getD s (b + 2) (pos 0)))) (pos 0) ≡ t → nonNeg (getD s (b + 2) (pos 0)) ≡ not t
-      sign t h = sym (not-not _) ∙ ap not (sym (below-zero (getD s (b + 2) (pos 0))) ∙ (rw (read-back (getD s (b + 2) (pos 0)) f) at h))
+      sign t h = sym (not-not _) ∙ ap not (tested (getD s (b + 2) (pos 0)) f h)
 
       pub finished-there : ltZ (toZ w32 (ofZ w32 (getD s (b + 2) (pos 0)))) (pos 0) ≡ true → false ≡ hasTip pointPlaces level side tip (lookRow s r)
       unfolding byNumbers

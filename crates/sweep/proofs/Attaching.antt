@@ -21,7 +21,7 @@ use Rattle.steps.specs.SweepUp.{mostLength}
 use Rattle.rows.specs.Layout as rows
 use Rattle.rows.specs.Layout.{lookRow, openedIn, movedIn}
 use Rattle.rows.proofs.Signs.{plain-read}
-use Rattle.rows.proofs.Tips.{and-false}
+use Rattle.laws.proofs.Tests.{and-false}
 use Rattle.journal.specs.Layout as journal
 use Rattle.journal.specs.Layout.{recordsIn, writtenIn}
 use Rattle.sweep.specs.declared.Progress.{Progress}
