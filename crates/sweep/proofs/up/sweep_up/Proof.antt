@@ -28,21 +28,6 @@ loop-holds : tie.Need-loop-holds Inv-loop μ-loop
 unfolding sweepUp
 loop-holds c = (search needs, search needs, search needs, refl, refl)
 
-list-edge-requires : tie.Need-list-edge-requires Inv-loop μ-loop
-list-edge-requires c κs = search needs
-
-treat-requires : tie.Need-treat-requires Inv-loop μ-loop
-treat-requires c κs = search needs
-
-is-done-requires : tie.Need-is-done-requires Inv-loop μ-loop
-is-done-requires c κs = search needs
-
-same-length : tie.Need-same-length Inv-loop μ-loop
-same-length c = search needs
-
-same-length-2 : tie.Need-same-length-2 Inv-loop μ-loop
-same-length-2 c = search needs
-
 returns : tie.Need-returns Inv-loop μ-loop
 returns c =
     let c₁ = c .before in
@@ -63,12 +48,6 @@ returns c =
     (sym (c₁ .is-done .ensures) ∙ not-true _ (c .if1 .taken)) in
     (e, records-there (g .rows .now) (g .journal .now) (edgesOf (g .edges .now)) (g .n) w e)
 
-add-i : tie.Need-add-i Inv-loop μ-loop
-add-i c = search needs
-
-loop-less : tie.Need-loop-less Inv-loop μ-loop
-loop-less c = search needs
-
 loop-again : tie.Need-loop-again Inv-loop μ-loop
 loop-again c =
     let c₁ = c .before in
@@ -84,12 +63,6 @@ loop-again c =
     next-edge (g .rows .now) (g .journal .now) (edgesOf (g .edges .now)) (l .i) {w = record { progress = l .s; edge = l .edge }} (l .inv .3) (l .inv .4) (l .inv .1) (l .inv .2)
     (c₅ .list-edge .ensures .0) {p = t .result} (t .ensures) in
     (omega (arith, c₈ .loop-test .taken), omega (arith, l .inv .1, t .kept), omega (arith, l .inv .2, t .kept), next, sym (c₁ .is-done .ensures) ∙ not-false _ (c .if1 .left))
-
-same-length-3 : tie.Need-same-length-3 Inv-loop μ-loop
-same-length-3 c = search needs
-
-same-length-4 : tie.Need-same-length-4 Inv-loop μ-loop
-same-length-4 c = search needs
 
 returns-2 : tie.Need-returns-2 Inv-loop μ-loop
 returns-2 c =
@@ -109,15 +82,15 @@ sweep-up-spec =
     Inv-loop
     μ-loop
     loop-holds
-    list-edge-requires
-    treat-requires
-    is-done-requires
-    same-length
-    same-length-2
+    (search needs)
+    (search needs)
+    (search needs)
+    (search needs)
+    (search needs)
     returns
-    add-i
-    loop-less
+    (search needs)
+    (search needs)
     loop-again
-    same-length-3
-    same-length-4
+    (search needs)
+    (search needs)
     returns-2)
