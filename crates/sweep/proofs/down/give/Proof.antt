@@ -30,11 +30,4 @@ pub give-spec : {M : Type 1} → statement M
 give-spec =
     tie.close
     (tie.spec
-    (search needs)
-    (search needs)
-    (search needs)
-    (search needs)
-    (search needs)
-    (search needs)
-    (search needs)
-    returns)
+    (search needs) (search needs) (search needs) (search needs) (search needs) (search needs) (search needs) returns)

@@ -40,18 +40,6 @@ pub read-record-spec : {M : Type 1} → statement M
 read-record-spec =
     tie.close
     (tie.spec
-    (search needs)
-    (search needs)
-    (search needs)
-    (search needs)
-    (search needs)
-    (search needs)
-    (search needs)
-    (search needs)
-    (search needs)
-    returns
+    (search needs) (search needs) (search needs) (search needs) (search needs) (search needs) (search needs) (search needs) (search needs) returns
     hand-on-requires
-    (search needs)
-    (search needs)
-    (search needs)
-    returns-2)
+    (search needs) (search needs) (search needs) returns-2)

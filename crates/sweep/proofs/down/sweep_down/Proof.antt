@@ -56,11 +56,5 @@ sweep-down-spec =
     Inv-loop
     μ-loop
     loop-holds
-    (search needs)
-    (search needs)
-    (search needs)
-    loop-again
-    (search needs)
-    (search needs)
-    (search needs)
-    returns)
+    (search needs) (search needs) (search needs) loop-again
+    (search needs) (search needs) (search needs) returns)

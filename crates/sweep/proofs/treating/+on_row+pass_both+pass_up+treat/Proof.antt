@@ -10,9 +10,7 @@ use Rattle.steps.specs.SweepUp as up
 use Rattle.rows.proofs.Searching.{found-there}
 use Rattle.sweep.specs.Slices.{roomOf}
 use Rattle.sweep.proofs.Rooms.{lowest-is}
-use Rattle.sweep.proofs.Ways.{up-unfinished, up-stopped, up-freed, both-one, both-stopped, both-passed, row-stopped, row-unmet, row-met, treat-closed, treat-none-left, treat-found, treat-no-row, treat-opened}
-use Rattle.steps.specs.SweepUp as up
-use Rattle.steps.specs.SweepUp as up
+use Rattle.sweep.proofs.Ways.{up-unfinished, up-stopped, up-freed, both-one, both-stopped, both-passed, row-stopped, row-unmet, row-met, treat-closed, treat-none-left, Searched, treat-found, treat-no-row, treat-opened}
 use borrow.Fn.Kinds.{In}
 use borrow.Fn.PlainCycle.{Measures, is, falls, and}
 use Rattle.sweep.proofs.treating.on_row.Reads as on-row
@@ -178,14 +176,11 @@ on-row-pass-both-requires : (t : ℕ) → on-row-lts.Need-pass-both-requires (on
 on-row-pass-both-requires t c κs =
     let c₃ = c .before .before .before in
     let c₆ = c₃ .before .before .before in
-    let c₉ = c₆ .before .before .before in
-    let c₁₁ = c₉ .before .before in
-    let c₁₉ = c₁₁ .before .before .before .before .before .before .before .before in
-    let c₂₂ = c₁₉ .before .before .before in
-    let has = found-there _ _ _ _ _ _ (sym (c₁₁ .find .ensures) ∙ c₉ .q .given .1) in
+    let c₁₉ = c₆ .before .before .before .before .before .before .before .before .before .before .before .before .before in
+    let has = on-row-finish-requires t (c₆ .before) (κs .0, tt) in
     let k = c₆ .finish .kept .0 in
     let l = c₃ .finish2 .kept .0 in
-    let pre = c₂₂ .pre in
+    let pre = c₁₉ .before .before .before .pre in
     (omega (arith, pre .0), (omega (arith, has, k, l), omega (arith, pre .1 .0, c₁₉ .attach .kept .0, k, l), omega (arith, pre .1 .1), omega (arith, pre .1 .2)))
 
 on-row-returns-3 : (t : ℕ) → on-row-lts.Need-returns-3 (on-row-calls t) (on-row-at t) on-row.Post
@@ -286,23 +281,32 @@ treat-returns-2 t c =
     let g = c₅ .args in
     c .ended .ensures (g .rows .now) (g .journal .now) ∙ treat-none-left (g .rows .now) (g .journal .now) (g .left) (g .level) (g .s) (g .e) (c₃ .same .ensures) (c₂ .if1 .left) (c₁ .if2 .taken)
 
+-- what the three ways out behind the search share
+searched : (t : ℕ) (c : treat-lts.After-find (treat-calls t) (treat-at t) treat.Post) →
+    let c₂ = c .before .before in
+    let g = c₂ .before .before .before .before .before .before .args in
+    Searched (g .rows .now) (g .journal .now) (g .left) (g .level) (g .s) (g .e) (c₂ .before .side .result) (c₂ .bottom .result) (c .find .result)
+searched t c =
+    let c₂ = c .before .before in
+    let c₃ = c₂ .before in
+    let c₄ = c₃ .before in
+    let c₅ = c₄ .before in
+    record {
+      apart = sym (c₅ .before .same .ensures) ∙ c₅ .if1 .left;
+      above = omega (arith, c₄ .if2 .left);
+      side-is = c₃ .side .ensures;
+      bottom-is = c₂ .bottom .ensures;
+      found-is = c .find .ensures;
+    }
+
 treat-returns-3 : (t : ℕ) → treat-lts.Need-returns-3 (treat-calls t) (treat-at t) treat.Post
 treat-returns-3 t c =
     let c₁ = c .before in
     let c₂ = c₁ .before in
     let c₄ = c₂ .before .before in
     let c₆ = c₄ .before .before in
-    let c₈ = c₆ .before .before in
-    let c₁₀ = c₈ .before .before in
-    let c₁₁ = c₁₀ .before in
-    let c₁₂ = c₁₁ .before in
-    let c₁₃ = c₁₂ .before in
-    let c₁₄ = c₁₃ .before in
-    let c₁₆ = c₁₄ .before .before in
-    let g = c₁₆ .args in
-    c .ended2 .ensures (g .rows .now) (g .journal .now)
-    ∙ treat-no-row (g .rows .now) (g .journal .now) (g .left) (g .level) (g .s) (g .e) (c₁₄ .same .ensures) (c₁₃ .if1 .left) (omega (arith, c₁₂ .if2 .left))
-    (c₁₁ .side .ensures) (c₁₀ .bottom .ensures) (c₈ .find .ensures) (c₆ .enum-told .given .1) (c₄ .lowest-free .ensures) (omega (arith, c₁ .if3 .taken, c₂ .rows-in .ensures))
+    c .ended2 .ensures _ _
+    ∙ treat-no-row (searched t (c₆ .before .before)) (c₆ .enum-told .given .1) (c₄ .lowest-free .ensures) (omega (arith, c₁ .if3 .taken, c₂ .rows-in .ensures))
 
 treat-open-lowest-requires : (t : ℕ) → treat-lts.Need-open-lowest-requires (treat-calls t) (treat-at t) treat.Post
 treat-open-lowest-requires t c κs =
@@ -321,17 +325,8 @@ treat-returns-4 t c =
     let c₉ = c₈ .before in
     let c₁₁ = c₉ .before .before in
     let c₁₃ = c₁₁ .before .before in
-    let c₁₅ = c₁₃ .before .before in
-    let c₁₇ = c₁₅ .before .before in
-    let c₁₈ = c₁₇ .before in
-    let c₁₉ = c₁₈ .before in
-    let c₂₀ = c₁₉ .before in
-    let c₂₁ = c₂₀ .before in
-    let c₂₃ = c₂₁ .before .before in
-    let g = c₂₃ .args in
-    treat-opened (g .rows .now) (g .journal .now) (g .left) (g .level) (g .s) (g .e) (c₂₁ .same .ensures) (c₂₀ .if1 .left) (omega (arith, c₁₉ .if2 .left))
-    (c₁₈ .side .ensures) (c₁₇ .bottom .ensures) (c₁₅ .find .ensures) (c₁₃ .enum-told .given .1) (c₁₁ .lowest-free .ensures) (omega (arith, c₈ .if3 .left, c₉ .rows-in .ensures))
-    (c₆ .open-lowest .ensures (g .journal .now)) (c₆ .open-lowest .kept .0) (c₂ .on-row .ensures)
+    treat-opened (searched t (c₁₃ .before .before)) (c₁₃ .enum-told .given .1) (c₁₁ .lowest-free .ensures) (omega (arith, c₈ .if3 .left, c₉ .rows-in .ensures))
+    (c₆ .open-lowest .ensures _) (c₆ .open-lowest .kept .0) (c₂ .on-row .ensures)
 
 treat-on-row-requires-2 : (t : ℕ) → treat-lts.Need-on-row-requires-2 (treat-calls t) (treat-at t) treat.Post
 treat-on-row-requires-2 t c κs =
@@ -346,95 +341,33 @@ treat-returns-5 : (t : ℕ) → treat-lts.Need-returns-5 (treat-calls t) (treat-
 treat-returns-5 t c =
     let c₂ = c .before .before in
     let c₆ = c₂ .before .before .before .before in
-    let c₈ = c₆ .before .before in
-    let c₁₀ = c₈ .before .before in
-    let c₁₁ = c₁₀ .before in
-    let c₁₂ = c₁₁ .before in
-    let c₁₃ = c₁₂ .before in
-    let c₁₄ = c₁₃ .before in
-    let c₁₆ = c₁₄ .before .before in
-    let g = c₁₆ .args in
-    treat-found (g .rows .now) (g .journal .now) (g .left) (g .level) (g .s) (g .e) (c₁₄ .same .ensures) (c₁₃ .if1 .left) (omega (arith, c₁₂ .if2 .left))
-    (c₁₁ .side .ensures) (c₁₀ .bottom .ensures) (c₈ .find .ensures) (c₆ .r .given .1) (c₂ .on-row2 .ensures)
+    treat-found (searched t (c₆ .before .before)) (c₆ .r .given .1) (c₂ .on-row2 .ensures)
 
 pub +on-row+pass-both+pass-up+treat-spec : {M : Type 1} → statement M
 +on-row+pass-both+pass-up+treat-spec =
     close μ-on-row μ-pass-both μ-pass-up μ-treat (λ t. on-row-lts.spec (on-row-calls t) (on-row-at t)
     on-row.Post
-    (search needs)
-    (search needs)
-    (search needs)
-    (search needs)
-    (on-row-returns t)
-    (search needs)
-    (search needs)
-    (search needs)
-    (search needs)
-    (search needs)
-    (search needs)
-    (search needs)
-    (on-row-returns-2 t)
+    (search needs) (search needs) (search needs) (search needs) (on-row-returns t)
+    (search needs) (search needs) (search needs) (search needs) (search needs) (search needs) (search needs) (on-row-returns-2 t)
     (on-row-finish-requires t)
-    (search needs)
-    (on-row-pass-both-requires t)
-    (search needs)
-    (search needs)
-    (on-row-returns-3 t))
+    (search needs) (on-row-pass-both-requires t)
+    (search needs) (search needs) (on-row-returns-3 t))
     (λ t. pass-both-lts.spec (pass-both-calls t) (pass-both-at t)
     pass-both.Post
-    (search needs)
-    (search needs)
-    (search needs)
-    (pass-both-returns t)
-    (search needs)
-    (search needs)
-    (search needs)
-    (pass-both-returns-2 t)
-    (search needs)
-    (search needs)
-    (search needs)
-    (pass-both-returns-3 t))
+    (search needs) (search needs) (search needs) (pass-both-returns t)
+    (search needs) (search needs) (search needs) (pass-both-returns-2 t)
+    (search needs) (search needs) (search needs) (pass-both-returns-3 t))
     (λ t. pass-up-lts.spec (pass-up-calls t) (pass-up-at t)
     pass-up.Post
-    (search needs)
-    (search needs)
-    (pass-up-returns t)
-    (search needs)
-    (search needs)
-    (search needs)
-    (search needs)
-    (search needs)
-    (search needs)
-    (search needs)
-    (pass-up-returns-2 t)
-    (search needs)
-    (search needs)
-    (search needs)
-    (pass-up-returns-3 t))
+    (search needs) (search needs) (pass-up-returns t)
+    (search needs) (search needs) (search needs) (search needs) (search needs) (search needs) (search needs) (pass-up-returns-2 t)
+    (search needs) (search needs) (search needs) (pass-up-returns-3 t))
     λ t. treat-lts.spec (treat-calls t) (treat-at t)
     treat.Post
-    (search needs)
-    (search needs)
-    (search needs)
-    (treat-returns t)
-    (search needs)
-    (treat-returns-2 t)
-    (search needs)
-    (search needs)
-    (search needs)
-    (search needs)
-    (search needs)
-    (search needs)
-    (search needs)
-    (search needs)
-    (search needs)
-    (treat-returns-3 t)
+    (search needs) (search needs) (search needs) (treat-returns t)
+    (search needs) (treat-returns-2 t)
+    (search needs) (search needs) (search needs) (search needs) (search needs) (search needs) (search needs) (search needs) (search needs) (treat-returns-3 t)
     (treat-open-lowest-requires t)
-    (search needs)
-    (search needs)
-    (search needs)
-    (treat-returns-4 t)
+    (search needs) (search needs) (search needs) (treat-returns-4 t)
     (treat-on-row-requires-2 t)
-    (search needs)
-    (search needs)
-    (treat-returns-5 t)
+    (search needs) (search needs) (treat-returns-5 t)

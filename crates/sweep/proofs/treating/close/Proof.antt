@@ -26,12 +26,5 @@ pub close-spec : {M : Type 1} → statement M
 close-spec =
     tie.close
     (tie.spec
-    (search needs)
-    (search needs)
-    (search needs)
-    returns
-    (search needs)
-    (search needs)
-    (search needs)
-    (search needs)
-    returns-2)
+    (search needs) (search needs) (search needs) returns
+    (search needs) (search needs) (search needs) (search needs) returns-2)

@@ -82,15 +82,6 @@ sweep-up-spec =
     Inv-loop
     μ-loop
     loop-holds
-    (search needs)
-    (search needs)
-    (search needs)
-    (search needs)
-    (search needs)
-    returns
-    (search needs)
-    (search needs)
-    loop-again
-    (search needs)
-    (search needs)
-    returns-2)
+    (search needs) (search needs) (search needs) (search needs) (search needs) returns
+    (search needs) (search needs) loop-again
+    (search needs) (search needs) returns-2)
