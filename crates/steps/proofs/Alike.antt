@@ -125,46 +125,29 @@ module _ {P T J P′ T′ J′ : Type 0} {room : Room P T J} {room′ : Room P�
     unfolding up.inUse
     in-use-alike = rw (count-same _ _ (s .peak) (λ r l. look-alike r l .used), A .peak)
 
-  weaken : {d d′ k k′ : ℕ} {s : State T J} {s′ : State T′ J′} → d ≤ d′ → Alike d k s s′ → k′ ≤ s .peak → Alike d′ k′ s s′
-  weaken l A m = record {
-    rows = A .rows;
-    journal = A .journal;
-    records = A .records;
-    peak = A .peak;
-    end = A .end;
-    named = A .named;
-    kept = A .kept;
-    little = λ e. omega (arith, l, A .little e);
-    since = m;
-  }
-
-  -- the same state with other rows
-  with-rows : {d k : ℕ} {s : State T J} {s′ : State T′ J′} {t : T} {t′ : T′} → Rows (s .peak) t t′ → Alike d k s s′ → Alike d k (up.withRows t s) (up.withRows t′ s′)
-  with-rows h A = record {
+  -- the same states with other rows and another end
+  changed : {d d′ k k′ : ℕ} {s : State T J} {s′ : State T′ J′} {t : T} {t′ : T′} {x x′ : End} → Rows (s .peak) t t′ → x ≡ x′ → (x ≡ Done → s .peak ≤ s .records + d′) → k′ ≤ s .peak → Alike d k s s′ → Alike d′ k′ (up.ended x (up.withRows t s)) (up.ended x′ (up.withRows t′ s′))
+  changed h e l m A = record {
     rows = h;
     journal = A .journal;
     records = A .records;
     peak = A .peak;
-    end = A .end;
+    end = e;
     named = A .named;
     kept = A .kept;
-    little = A .little;
-    since = A .since;
+    little = l;
+    since = m;
   }
+
+  weaken : {d d′ k k′ : ℕ} {s : State T J} {s′ : State T′ J′} → d ≤ d′ → Alike d k s s′ → k′ ≤ s .peak → Alike d′ k′ s s′
+  weaken l A m = changed (A .rows) (A .end) (λ e. omega (arith, l, A .little e)) m A
+
+  with-rows : {d k : ℕ} {s : State T J} {s′ : State T′ J′} {t : T} {t′ : T′} → Rows (s .peak) t t′ → Alike d k s s′ → Alike d k (up.withRows t s) (up.withRows t′ s′)
+  with-rows h A = changed h (A .end) (A .little) (A .since) A
 
   -- a state that ended early
   end-early : {d k : ℕ} {s : State T J} {s′ : State T′ J′} (x : End) → (x ≡ Done → ⊥) → Alike d k s s′ → Alike 0 k (up.ended x s) (up.ended x s′)
-  end-early x n A = record {
-    rows = A .rows;
-    journal = A .journal;
-    records = A .records;
-    peak = A .peak;
-    end = refl;
-    named = A .named;
-    kept = A .kept;
-    little = λ e. absurd (n e);
-    since = A .since;
-  }
+  end-early x n A = changed (A .rows) refl (λ e. absurd (n e)) (A .since) A
 
   by-name : (s : State T J) → max (s .peak) (up.inUse room s + 1) ≡ max (s .peak) (up.lowestFree room s + 1)
   unfolding up.inUse up.lowestFree
