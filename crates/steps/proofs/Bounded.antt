@@ -1,5 +1,6 @@
 -- What every sweep keeps within, in any room: the records stay within the journal's, the peak within the records and the rows, the edge at which a
--- sweep up ends within the list, and a sweep down counts no more polygons than records.
+-- sweep up ends within the list, and a sweep down counts no more polygons than records. Running alike keeps the first two bounds, and a room runs like
+-- itself, whatever the names in the list are.
 use mathlib.Core.Path.{_≡_, refl}
 use Prim.Native.Nat.{ℕ, zero, suc, _+_, _≤_, _<_}
 use native.Mathlib.Omega.{arith}
@@ -39,11 +40,11 @@ pub record Within {P T J : Type 0} (room : Room P T J) (s : State T J) : Type 0 
   pub little : s .end ≡ Done → s .peak ≤ s .records
 
 pub sweep-within : {P T J : Type 0} (room : Room P T J) (list : ℕ → Edge P) (n : ℕ) (t : T) (j : J) → Within room (sweepUp room list (start t j) n .state)
-sweep-within {P} room list n t j =
+sweep-within room list n t j =
     let B = sweep-alike M list list n same (start-alike M refl refl) .state in
     record { kept = B .kept; named = B .named; little = λ e. omega (arith, B .little e) }
   where
-    -- no name of the list is above this
+    -- no name is above this
     most : ℕ
     most = room .records + largest (λ i. list i .name) n
 
