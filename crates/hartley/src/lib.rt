@@ -5,7 +5,7 @@ ghost use mathlib.Core.Path.{_≡_};
 ghost use Rattle.steps.specs.SweepUp.{levels};
 
 // The highest level that an edge may have.
-pub fn highest_level() -> usize
+fn highest_level() -> usize
     ensures { λ r. ⌜ r ≡ levels ⌝ }
 {
     12

@@ -40,7 +40,7 @@ is-done-end Overrun h = absurd (not-both h refl)
 module _ (l : Lent) (few : edgesIn (l .list) ≤ 4096) (eight : length (l .journal) ≡ 8 * edgesIn (l .list)) where
   within : Within (roomOf (l .rows) (l .journal)) (sweptUp l .state)
   unfolding sweptUp room
-  within = sweep-within (roomOf (l .rows) (l .journal)) _ (edgesIn (l .list)) (λ i h. omega (arith, eight)) (l .rows) (l .journal)
+  within = sweep-within (roomOf (l .rows) (l .journal)) _ (edgesIn (l .list)) (l .rows) (l .journal)
 
   pub records-fit : sweptUp l .state .records ≤ 8192
   unfolding room

@@ -19,7 +19,7 @@ use Rattle.steps.specs.Rows.{Row, Record, closing}
 use Rattle.steps.specs.SweepUp.{Sweep, listEdge, start}
 use Rattle.steps.specs.SweepDown.{Numbers, Reading}
 use Rattle.steps.specs.Plain.{newRow, plainTables, plainJournal}
-use Rattle.steps.proofs.Alike.{Match, Alike, AlikeSweep, sweep-alike}
+use Rattle.steps.proofs.Alike.{Match, Alike, AlikeSweep, start-alike, sweep-alike}
 use Rattle.steps.proofs.AlikeDown.{MatchDown, AlikeReading, down-alike}
 use Rattle.rows.specs.Layout.{rowsIn}
 use Rattle.journal.specs.Layout.{slices, recordsIn, naturalPart}
@@ -85,17 +85,9 @@ module _ (l : Lent) (ok : checked (callOf l) ≡ Passed) where
 
   same-start : Alike M 0 0 (start (l .rows) part) (start anyRows anyRecords)
   same-start =
-      record {
-        rows = record { long = omega arith; inside = omega arith; row = λ r h. absurd (omega arith) };
-        journal = record { long = omega arith; entry = λ i h. absurd (omega arith); number = λ i q h u. absurd (omega arith) };
-        records = refl;
-        peak = refl;
-        end = refl;
-        named = omega arith;
-        kept = omega arith;
-        little = λ e. omega arith;
-        since = omega arith;
-      }
+      start-alike M
+      (record { long = omega arith; inside = omega arith; row = λ r h. absurd (omega arith) })
+      (record { long = omega arith; entry = λ i h. absurd (omega arith); number = λ i q h u. absurd (omega arith) })
 
   alike : AlikeSweep M (sweptUp (inJournal l)) plain
   unfolding sweptUp room sheetOf

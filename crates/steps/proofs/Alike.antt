@@ -1,25 +1,35 @@
 -- Two rooms that hold the same run alike: whatever places, tables and journals are made of, as long as places compare alike, rows look alike after
 -- each write and records are kept, every step in one room has its like in the other. So what is shown of plain tables holds of slices.
 use mathlib.Core.Path.{_≡_, refl, sym, ap, subst}
-use mathlib.Core.Bool.{Bool, true, false, cond, not, _&&_}
+use mathlib.Core.Bool.{Bool, true, false, not, _&&_}
 use Prim.Native.Nat.{ℕ, zero, suc, _+_, max, _≤_, _<_}
 use native.Mathlib.Omega.{arith}
 use lib.Dec.{eqb, ltb, leb}
+use lib.IntN.{pos}
 use borrow.Author.Tests.{ltb-true}
 use Rattle.laws.proofs.Deciding.{not-both, both-true}
-use Rattle.laws.specs.Counting.{count, first}
+use Rattle.laws.specs.Counting.{first}
 use Rattle.laws.proofs.Counting.{count-same}
 use Rattle.laws.proofs.First.{first-same, first-le}
+use Rattle.laws.proofs.Lowest.{count-by-lowest}
 use Rattle.steps.specs.declared.Side.{Side}
 use Rattle.steps.specs.declared.Side.the-variants.{Rising, Falling}
 use Rattle.steps.specs.declared.Found.{Found}
 use Rattle.steps.specs.declared.Found.the-variants.{At, Nothing}
 use Rattle.steps.specs.declared.End.{End}
 use Rattle.steps.specs.declared.End.the-variants.{Done, NoFreeRow, Overrun}
-use Rattle.steps.specs.Rows.{otherSide, Both, on, Branch, Row, Chain, inRow, closing, Record, Edge, Places, Room}
+use Rattle.steps.specs.Rows.{otherSide, on, Branch, Row, Chain, inRow, closing, Record, Edge, Room}
 use Rattle.steps.specs.SweepUp as up
-use Rattle.laws.proofs.Lowest.{count-by-lowest}
-use Rattle.steps.specs.SweepUp.{State, Sweep, hasTip, asEdge, bothFinished, bottom, top, sideOf, sideTest, longer, chainRecord, foundBelow, mostLength}
+use Rattle.steps.specs.SweepUp.{State, Sweep, hasTip, asEdge, bottom, top, sideOf, sideTest, longer, chainRecord, foundBelow, mostLength}
+
+-- going on after two treatments that ended alike
+after-both : {A A′ : Type 0} (R : A → A′ → Type 0) {u u′ : End} → u ≡ u′ → {x y : A} {x′ y′ : A′} → R x x′ → (u ≡ Done → R y y′) → R (up.afterDone u x y) (up.afterDone u′ x′ y′)
+after-both {A} {A′} R {u} e {x} {y} {x′} {y′} h f = subst (λ v. R (up.afterDone u x y) (up.afterDone v x′ y′)) e (by u f)
+  where
+    by : (v : End) → (v ≡ Done → R y y′) → R (up.afterDone v x y) (up.afterDone v x′ y′)
+    by Done g = g refl
+    by NoFreeRow g = h
+    by Overrun g = h
 
 module _ {P P′ : Type 0} (R : P → P′ → Type 0) where
   pub record AlikeBranch (b : Branch P) (b′ : Branch P′) : Type 0 where
@@ -77,6 +87,21 @@ module _ {P T J P′ T′ J′ : Type 0} {room : Room P T J} {room′ : Room P�
     pub little : s .end ≡ Done → s .peak ≤ s .records + d
     pub since : k ≤ s .peak
 
+  -- before the first edge
+  pub start-alike : {t : T} {t′ : T′} {j : J} {j′ : J′} → Rows 0 t t′ → Kept 0 j j′ → Alike 0 0 (up.start t j) (up.start t′ j′)
+  start-alike h g =
+      record {
+        rows = h;
+        journal = g;
+        records = refl;
+        peak = refl;
+        end = refl;
+        named = omega arith;
+        kept = omega arith;
+        little = λ e. omega arith;
+        since = omega arith;
+      }
+
   module _ {d k : ℕ} {s : State T J} {s′ : State T′ J′} (A : Alike d k s s′) where
     look-alike : (r : ℕ) → r < s .peak → AlikeRow R (up.look room s r) (up.look room′ s′ r)
     look-alike r l = M .look (A .rows) r l
@@ -100,46 +125,29 @@ module _ {P T J P′ T′ J′ : Type 0} {room : Room P T J} {room′ : Room P�
     unfolding up.inUse
     in-use-alike = rw (count-same _ _ (s .peak) (λ r l. look-alike r l .used), A .peak)
 
-  weaken : {d d′ k k′ : ℕ} {s : State T J} {s′ : State T′ J′} → d ≤ d′ → Alike d k s s′ → k′ ≤ s .peak → Alike d′ k′ s s′
-  weaken l A m = record {
-    rows = A .rows;
-    journal = A .journal;
-    records = A .records;
-    peak = A .peak;
-    end = A .end;
-    named = A .named;
-    kept = A .kept;
-    little = λ e. omega (arith, l, A .little e);
-    since = m;
-  }
-
-  -- the same state with other rows
-  with-rows : {d k : ℕ} {s : State T J} {s′ : State T′ J′} {t : T} {t′ : T′} → Rows (s .peak) t t′ → Alike d k s s′ → Alike d k (up.withRows t s) (up.withRows t′ s′)
-  with-rows h A = record {
+  -- the same states with other rows and another end
+  changed : {d d′ k k′ : ℕ} {s : State T J} {s′ : State T′ J′} {t : T} {t′ : T′} {x x′ : End} → Rows (s .peak) t t′ → x ≡ x′ → (x ≡ Done → s .peak ≤ s .records + d′) → k′ ≤ s .peak → Alike d k s s′ → Alike d′ k′ (up.ended x (up.withRows t s)) (up.ended x′ (up.withRows t′ s′))
+  changed h e l m A = record {
     rows = h;
     journal = A .journal;
     records = A .records;
     peak = A .peak;
-    end = A .end;
+    end = e;
     named = A .named;
     kept = A .kept;
-    little = A .little;
-    since = A .since;
+    little = l;
+    since = m;
   }
+
+  weaken : {d d′ k k′ : ℕ} {s : State T J} {s′ : State T′ J′} → d ≤ d′ → Alike d k s s′ → k′ ≤ s .peak → Alike d′ k′ s s′
+  weaken l A m = changed (A .rows) (A .end) (λ e. omega (arith, l, A .little e)) m A
+
+  with-rows : {d k : ℕ} {s : State T J} {s′ : State T′ J′} {t : T} {t′ : T′} → Rows (s .peak) t t′ → Alike d k s s′ → Alike d k (up.withRows t s) (up.withRows t′ s′)
+  with-rows h A = changed h (A .end) (A .little) (A .since) A
 
   -- a state that ended early
   end-early : {d k : ℕ} {s : State T J} {s′ : State T′ J′} (x : End) → (x ≡ Done → ⊥) → Alike d k s s′ → Alike 0 k (up.ended x s) (up.ended x s′)
-  end-early x n A = record {
-    rows = A .rows;
-    journal = A .journal;
-    records = A .records;
-    peak = A .peak;
-    end = refl;
-    named = A .named;
-    kept = A .kept;
-    little = λ e. absurd (n e);
-    since = A .since;
-  }
+  end-early x n A = changed (A .rows) refl (λ e. absurd (n e)) (A .since) A
 
   by-name : (s : State T J) → max (s .peak) (up.inUse room s + 1) ≡ max (s .peak) (up.lowestFree room s + 1)
   unfolding up.inUse up.lowestFree
@@ -243,7 +251,7 @@ module _ {P T J P′ T′ J′ : Type 0} {room : Room P T J} {room′ : Room P�
   unfolding up.close
   close-alike {k} {s} A level lv {e} h =
       pick-alike _ _ (λ i. ltb (A .records i) (M .records i))
-      (λ q. write-alike (weaken (omega arith) A (A .since)) (λ i. record { level = level; name = h .name i; chain = closing; offset = lib.IntN.pos (h .length i .falling) }) (ltb-true _ _ q) (record { level = lv; name = h .small; chain = omega arith }))
+      (λ q. write-alike (weaken (omega arith) A (A .since)) (λ i. record { level = level; name = h .name i; chain = closing; offset = pos (h .length i .falling) }) (ltb-true _ _ q) (record { level = lv; name = h .small; chain = omega arith }))
       (λ q. overrun A)
 
   -- step 4
@@ -261,18 +269,7 @@ module _ {P T J P′ T′ J′ : Type 0} {room : Room P T J} {room′ : Room P�
 
   -- going on after a treatment
   after-alike : {k : ℕ} {x : State T J} {x′ : State T′ J′} → Alike 0 k x x′ → {y : State T J} {y′ : State T′ J′} → (x .end ≡ Done → Alike 0 k y y′) → Alike 0 k (up.afterDone (x .end) x y) (up.afterDone (x′ .end) x′ y′)
-  after-alike {k} {x} {x′} A {y} {y′} f = by (x .end) (x′ .end) (A .end) f
-    where
-      by : (u u′ : End) → u ≡ u′ → (u ≡ Done → Alike 0 k y y′) → Alike 0 k (up.afterDone u x y) (up.afterDone u′ x′ y′)
-      by Done Done e g = g refl
-      by NoFreeRow NoFreeRow e g = A
-      by Overrun Overrun e g = A
-      by Done NoFreeRow e g = let z : _≡_ {A = ℕ} 0 1 = cc in absurd (omega arith)
-      by Done Overrun e g = let z : _≡_ {A = ℕ} 0 1 = cc in absurd (omega arith)
-      by NoFreeRow Done e g = let z : _≡_ {A = ℕ} 0 1 = cc in absurd (omega arith)
-      by NoFreeRow Overrun e g = let z : _≡_ {A = ℕ} 0 1 = cc in absurd (omega arith)
-      by Overrun Done e g = let z : _≡_ {A = ℕ} 0 1 = cc in absurd (omega arith)
-      by Overrun NoFreeRow e g = let z : _≡_ {A = ℕ} 0 1 = cc in absurd (omega arith)
+  after-alike {k} A f = after-both (Alike 0 k) (A .end) A f
 
   -- a row found is below the peak
   found-below : (test : ℕ → Bool) (n q : ℕ) → foundBelow test n ≡ At q → q < n
@@ -386,24 +383,10 @@ module _ {P T J P′ T′ J′ : Type 0} {room : Room P T J} {room′ : Room P�
     pub state : Alike 0 0 (w .state) (w′ .state)
     pub edge : w .edge ≡ w′ .edge
 
-  next-edge-alike : {w : Sweep T J} {w′ : Sweep T′ J′} → AlikeSweep w w′ → {s : State T J} {s′ : State T′ J′} → (w .state .end ≡ Done → Alike 0 0 s s′) → (i : ℕ) → AlikeSweep (up.nextEdge (w .state .end) w s i) (up.nextEdge (w′ .state .end) w′ s′ i)
-  next-edge-alike {w} {w′} A {s} {s′} f i = by (w .state .end) (w′ .state .end) (A .state .end) f
-    where
-      by : (u u′ : End) → u ≡ u′ → (u ≡ Done → Alike 0 0 s s′) → AlikeSweep (up.nextEdge u w s i) (up.nextEdge u′ w′ s′ i)
-      by Done Done e g = record { state = g refl; edge = refl }
-      by NoFreeRow NoFreeRow e g = A
-      by Overrun Overrun e g = A
-      by Done NoFreeRow e g = let z : _≡_ {A = ℕ} 0 1 = cc in absurd (omega arith)
-      by Done Overrun e g = let z : _≡_ {A = ℕ} 0 1 = cc in absurd (omega arith)
-      by NoFreeRow Done e g = let z : _≡_ {A = ℕ} 0 1 = cc in absurd (omega arith)
-      by NoFreeRow Overrun e g = let z : _≡_ {A = ℕ} 0 1 = cc in absurd (omega arith)
-      by Overrun Done e g = let z : _≡_ {A = ℕ} 0 1 = cc in absurd (omega arith)
-      by Overrun NoFreeRow e g = let z : _≡_ {A = ℕ} 0 1 = cc in absurd (omega arith)
-
   -- the sweep up in the two rooms
   pub sweep-alike : (list : ℕ → Edge P) (list′ : ℕ → Edge P′) (n : ℕ) → ((i : ℕ) → i < n → AlikeEdge R most (list i) (list′ i)) → {s : State T J} {s′ : State T′ J′} → Alike 0 0 s s′ → AlikeSweep (up.sweepUp room list s n) (up.sweepUp room′ list′ s′ n)
   unfolding up.sweepUp
   sweep-alike list list′ zero h A = record { state = A; edge = refl }
   sweep-alike list list′ (suc n) h {s} {s′} A =
       let B = sweep-alike list list′ n (λ i l. h i (omega arith)) A in
-      next-edge-alike B (λ done. treat-alike 12 0 (omega arith) 0 _ _ _ _ (B .state) done (h n (omega arith))) n
+      after-both AlikeSweep (B .state .end) B (λ done. record { state = treat-alike 12 0 (omega arith) 0 _ _ _ _ (B .state) done (h n (omega arith)); edge = refl })

@@ -1,8 +1,7 @@
 -- The sweep down on two kinds of tables: where every value that the records give can be held, both tables hold the same values all the way.
-use mathlib.Core.Path.{_≡_, refl, sym, ap, _∙_}
+use mathlib.Core.Path.{_≡_, refl, ap}
 use Prim.Native.Nat.{ℕ, zero, suc, _+_, _<_}
 use native.Mathlib.Omega.{arith}
-use lib.IntN.{ℤ}
 use Rattle.steps.specs.Rows.{Chain, inRow, closing, Record, Journal}
 use Rattle.steps.specs.SweepDown.{Numbers, Tables, Reading, give, shifted, readRecord, sweepDown}
 

@@ -1,22 +1,24 @@
 -- What every sweep keeps within, in any room: the records stay within the journal's, the peak within the records and the rows, the edge at which a
--- sweep up ends within the list, and a sweep down counts no more polygons than records.
-use mathlib.Core.Path.{_≡_, refl, sym, ap, _∙_}
-use Prim.Native.Nat.{ℕ, zero, suc, _+_, _≤_, _<_, max}
+-- sweep up ends within the list, and a sweep down counts no more polygons than records. Running alike keeps the first two bounds, and a room runs like
+-- itself, whatever the names in the list are.
+use mathlib.Core.Path.{_≡_, refl}
+use Prim.Native.Nat.{ℕ, zero, suc, _+_, _≤_, _<_}
 use native.Mathlib.Omega.{arith}
-use Rattle.steps.specs.declared.Side.{Side}
+use Rattle.laws.specs.Counting.{largest}
+use Rattle.laws.proofs.Largest.{largest-bound}
 use Rattle.steps.specs.declared.End.{End}
 use Rattle.steps.specs.declared.End.the-variants.{Done, NoFreeRow, Overrun}
-use Rattle.steps.specs.Rows.{Chain, inRow, closing, Record, Row, Edge, Room, Journal, on}
+use Rattle.steps.specs.Rows.{Chain, inRow, closing, Record, Row, Edge, Room, Journal}
 use Rattle.steps.specs.SweepUp.{State, Sweep, sweepUp, nextEdge, treat, levels, start}
-use Rattle.steps.specs.SweepDown.{Numbers, Tables, Reading, give, shifted, readRecord, sweepDown}
-use Rattle.steps.proofs.Alike.{AlikeRow, AlikeEdge, Match, Alike, sweep-alike}
+use Rattle.steps.specs.SweepDown.{Tables, Reading, give, shifted, readRecord, sweepDown}
+use Rattle.steps.proofs.Alike.{AlikeRow, AlikeEdge, Match, start-alike, sweep-alike}
 
 -- a room matches itself
 row-self : {P : Type 0} (row : Row P) → AlikeRow (λ p q. p ≡ q) row row
 row-self row = record { used = refl; level = refl; branch = λ s. record { tip = refl; length = refl; finished = refl } }
 
-self : {P T J : Type 0} (room : Room P T J) → Match room room (λ p q. p ≡ q) (λ k t t′. t ≡ t′) (λ k j j′. j ≡ j′) (room .records)
-self room =
+self : {P T J : Type 0} (room : Room P T J) (most : ℕ) → room .records ≤ most → Match room room (λ p q. p ≡ q) (λ k t t′. t ≡ t′) (λ k j j′. j ≡ j′) most
+self room most names =
     record {
       same = λ h k. λ i. room .places .same (h i) (k i);
       below = λ h k. λ i. room .places .below (h i) (k i);
@@ -29,7 +31,7 @@ self room =
       written = λ {j} {j′} {k} {entry} h l m. λ i. room .journal .written (h i) k entry;
       rows = refl;
       records = refl;
-      names = omega arith;
+      names = names;
     }
 
 pub record Within {P T J : Type 0} (room : Room P T J) (s : State T J) : Type 0 where
@@ -37,22 +39,20 @@ pub record Within {P T J : Type 0} (room : Room P T J) (s : State T J) : Type 0 
   pub named : s .peak ≤ room .rows
   pub little : s .end ≡ Done → s .peak ≤ s .records
 
--- a list whose names the journal has room for
-pub sweep-within : {P T J : Type 0} (room : Room P T J) (list : ℕ → Edge P) (n : ℕ) → ((i : ℕ) → i < n → list i .name ≤ room .records) → (t : T) (j : J) → Within room (sweepUp room list (start t j) n .state)
-sweep-within room list n small t j =
-    let A : Alike (self room) 0 0 (start t j) (start t j) = record {
-      rows = refl;
-      journal = refl;
-      records = refl;
-      peak = refl;
-      end = refl;
-      named = omega arith;
-      kept = omega arith;
-      little = λ e. omega arith;
-      since = omega arith;
-    } in
-    let B = sweep-alike (self room) list list n (λ i l. record { name = refl; small = small i l; tail = refl; head = refl; length = refl }) A .state in
+pub sweep-within : {P T J : Type 0} (room : Room P T J) (list : ℕ → Edge P) (n : ℕ) (t : T) (j : J) → Within room (sweepUp room list (start t j) n .state)
+sweep-within room list n t j =
+    let B = sweep-alike M list list n same (start-alike M refl refl) .state in
     record { kept = B .kept; named = B .named; little = λ e. omega (arith, B .little e) }
+  where
+    -- no name is above this
+    most : ℕ
+    most = room .records + largest (λ i. list i .name) n
+
+    M : Match room room (λ p q. p ≡ q) (λ k t t′. t ≡ t′) (λ k j j′. j ≡ j′) most
+    M = self room most (omega arith)
+
+    same : (i : ℕ) → i < n → AlikeEdge (λ p q. p ≡ q) most (list i) (list i)
+    same i l = record { name = refl; small = omega (arith, largest-bound (λ k. list k .name) n i l); tail = refl; head = refl; length = refl }
 
 pub edge-within : {P T J : Type 0} (room : Room P T J) (list : ℕ → Edge P) (s : State T J) (n : ℕ) → sweepUp room list s n .edge ≤ n
 unfolding sweepUp

@@ -1,3 +1,4 @@
+-- What is shown of the steps: worked sheets, the peak by names, two rooms run alike, and the bounds that follow.
 pub mod Sheets
 pub mod Alike
 pub mod AlikeDown

@@ -1,16 +1,15 @@
 -- Tables, journals and lists as plain functions of a name: with these the steps compute, and the theory speaks of these.
 use Prim.Native.Nat.{ℕ}
-use mathlib.Core.Bool.{Bool, true, false, cond}
+use mathlib.Core.Bool.{true, false, cond}
 use lib.Dec.{eqb}
-use lib.IntN.{ℤ, pos}
 use Rattle.steps.specs.declared.Side.{Side}
-use Rattle.steps.specs.Rows.{Both, on, with, Branch, Row, closing, Record, Places, Table, Journal, Room}
+use Rattle.steps.specs.Rows.{on, with, Branch, Row, Record, Table, Journal}
 use Rattle.steps.specs.SweepDown.{Numbers, Tables}
 
 abbrev pub put : {A : Type 0} → (ℕ → A) → ℕ → A → ℕ → A
 put f i a j = cond (eqb j i) a (f j)
 
-abbrev pub newBranch : {P : Type 0} → P → Branch P
+abbrev newBranch : {P : Type 0} → P → Branch P
 newBranch p = record { tip = p; length = 0; finished = false }
 
 abbrev pub newRow : {P : Type 0} → ℕ → P → Row P

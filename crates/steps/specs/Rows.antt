@@ -1,7 +1,7 @@
 -- Rows, records, and the two lent rooms that hold them (01, "The sweep up", first paragraph and the one on records).
 -- Places P, tables T and journals J are left open: the code has points and slices, the theory natural numbers and functions.
 use Prim.Native.Nat.{ℕ}
-use mathlib.Core.Bool.{Bool, true, false}
+use mathlib.Core.Bool.{Bool}
 use lib.IntN.{ℤ}
 use Rattle.steps.specs.declared.Side.{Side}
 use Rattle.steps.specs.declared.Side.the-variants.{Rising, Falling}

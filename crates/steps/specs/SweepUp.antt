@@ -1,7 +1,7 @@
 -- The sweep up (01, "The sweep up"), step by step. An up edge works on the rising side of its row, a down edge on the falling side; everything is said
 -- once, over the side. Names at or above the peak were never opened, so rows are looked for below it.
 use Prim.Native.Nat.{ℕ, zero, suc, _+_, max}
-use mathlib.Core.Bool.{Bool, true, false, cond, not, _&&_}
+use mathlib.Core.Bool.{Bool, true, false, not, _&&_}
 use lib.Dec.{eqb, ltb, leb}
 use lib.IntN.{ℤ, pos, negℤ}
 use Rattle.laws.specs.Counting.{count, first}
@@ -11,7 +11,7 @@ use Rattle.steps.specs.declared.Found.{Found}
 use Rattle.steps.specs.declared.Found.the-variants.{At, Nothing}
 use Rattle.steps.specs.declared.End.{End}
 use Rattle.steps.specs.declared.End.the-variants.{Done, NoFreeRow, Overrun}
-use Rattle.steps.specs.Rows.{otherSide, Both, on, with, Branch, Row, Chain, inRow, closing, Record, Edge, Places, Table, Journal, Room}
+use Rattle.steps.specs.Rows.{otherSide, on, Row, inRow, closing, Record, Edge, Places, Room}
 
 -- the highest level that an edge may have, and the largest length that a row holds
 abbrev pub levels : ℕ
@@ -39,7 +39,7 @@ pickState true s t = s
 pickState false s t = t
 
 -- go on only where the treatment before is done
-abbrev pub afterDone : {T J : Type 0} → End → State T J → State T J → State T J
+abbrev pub afterDone : {A : Type 0} → End → A → A → A
 afterDone Done s t = t
 afterDone NoFreeRow s t = s
 afterDone Overrun s t = s
@@ -50,9 +50,7 @@ pub record Sweep (T J : Type 0) : Type 0 where
   pub edge : ℕ
 
 abbrev pub nextEdge : {T J : Type 0} → End → Sweep T J → State T J → ℕ → Sweep T J
-nextEdge Done w s i = record { state = s; edge = i }
-nextEdge NoFreeRow w s i = w
-nextEdge Overrun w s i = w
+nextEdge d w s i = afterDone d w (record { state = s; edge = i })
 
 abbrev pub pickFound : Bool → ℕ → Found
 pickFound true r = At r

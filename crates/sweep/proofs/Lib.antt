@@ -1,8 +1,8 @@
+-- The laws that the functions of this crate are proved with; each function has a folder of its own.
 pub mod Rooms
 pub mod Attaching
 pub mod Ways
 pub mod Sweeping
 pub mod Sums
 pub mod Handing
-pub mod Records
 pub mod Given

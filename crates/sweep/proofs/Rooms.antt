@@ -10,7 +10,7 @@ use Rattle.laws.proofs.Deciding.{not-both}
 use Rattle.steps.specs.declared.End.{End}
 use Rattle.steps.specs.declared.End.the-variants.{Done, NoFreeRow, Overrun}
 use Rattle.steps.specs.SweepUp as up
-use Rattle.steps.specs.SweepUp.{State, afterDone}
+use Rattle.steps.specs.SweepUp.{afterDone}
 use Rattle.rows.specs.Layout as rows
 use Rattle.rows.specs.Layout.{lookRow}
 use Rattle.sweep.specs.declared.Progress.{Progress}
@@ -19,7 +19,7 @@ use Rattle.sweep.specs.Slices.{room, roomOf, state, isDone}
 pub same-room : (a b a₁ b₁ : List ℤ) → length a₁ ≡ length a → length b₁ ≡ length b → roomOf a₁ b₁ ≡ roomOf a b
 same-room a b a₁ b₁ la lb = rw (la, lb)
 
-module _ {T J : Type 0} (s t : State T J) where
+module _ {A : Type 0} (s t : A) where
   pub stops : (x : End) → isDone x ≡ false → afterDone x s t ≡ s
   stops Done h = absurd (not-both refl h)
   stops NoFreeRow h = refl

@@ -1,6 +1,6 @@
 -- The sweep over the list, an edge at a time: as long as treatments are done, treating the next edge is the next step; after one that is not, the sweep
 -- stays as it is.
-use mathlib.Core.Path.{_≡_, refl, sym, ap, _∙_}
+use mathlib.Core.Path.{_≡_, sym, ap, _∙_}
 use mathlib.Core.Bool.{true, false}
 use mathlib.Core.List.{List}
 use Prim.Native.Nat.{ℕ, zero, suc, _+_, _-_, _*_, _≤_}
@@ -8,30 +8,16 @@ use native.Mathlib.Numerals.{add-one}
 use native.Mathlib.Omega.{arith}
 use lib.IntN.{ℤ}
 use lib.ListN.{length}
-use Rattle.laws.proofs.Deciding.{not-both}
 use Rattle.sheet.specs.declared.Point.{Point}
-use Rattle.steps.specs.declared.End.{End}
-use Rattle.steps.specs.declared.End.the-variants.{Done, NoFreeRow, Overrun}
 use Rattle.steps.specs.Rows.{Edge}
 use Rattle.steps.specs.SweepUp as up
-use Rattle.steps.specs.SweepUp.{State, Sweep, nextEdge, start}
+use Rattle.steps.specs.SweepUp.{State, Sweep, start}
+use Rattle.steps.proofs.Bounded.{sweep-within}
 use Rattle.sweep.specs.declared.Progress.{Progress}
 use Rattle.sweep.specs.declared.NamedEdge.{NamedEdge}
 use Rattle.sweep.specs.declared.Swept.{Swept}
 use Rattle.sweep.specs.Slices.{room, roomOf, state, edgeOf, isDone, swept}
-use Rattle.sweep.proofs.Rooms.{same-room}
-use Rattle.sweep.proofs.Records.{sweep-held}
-
-module _ {T J : Type 0} (w : Sweep T J) (s : State T J) (i : ℕ) where
-  next-goes : (x : End) → isDone x ≡ true → nextEdge x w s i ≡ record { state = s; edge = i }
-  next-goes Done h = refl
-  next-goes NoFreeRow h = absurd (not-both h refl)
-  next-goes Overrun h = absurd (not-both h refl)
-
-  next-stops : (x : End) → isDone x ≡ false → nextEdge x w s i ≡ w
-  next-stops Done h = absurd (not-both refl h)
-  next-stops NoFreeRow h = refl
-  next-stops Overrun h = refl
+use Rattle.sweep.proofs.Rooms.{same-room, stops, goes-on}
 
 module _ (a b : List ℤ) (list : ℕ → Edge Point) where
   pub next-edge : (i : ℕ) {a₁ b₁ : List ℤ} {w : Swept} → swept a₁ b₁ w ≡ up.sweepUp (roomOf a b) list (start a b) i →
@@ -39,7 +25,7 @@ module _ (a b : List ℤ) (list : ℕ → Edge Point) where
       {a₂ b₂ : List ℤ} {p : Progress} → state a₂ b₂ p ≡ up.treat (roomOf a₁ b₁) 12 0 (state a₁ b₁ (w .progress)) (edgeOf e) →
       swept a₂ b₂ (record { progress = p; edge = i }) ≡ up.sweepUp (roomOf a b) list (start a b) (i + 1)
   unfolding up.sweepUp
-  next-edge i {a₁} {b₁} {w} s d la lb l t = rw (add-one, ← s) (ap (λ (z : State (List ℤ) (List ℤ)). record { state = z; edge = i }) (rw (same-room a b a₁ b₁ la lb, l) at t) ∙ sym (next-goes _ _ i (w .progress .end) d))
+  next-edge i {a₁} {b₁} {w} s d la lb l t = rw (add-one, ← s) (ap (λ (z : State (List ℤ) (List ℤ)). record { state = z; edge = i }) (rw (same-room a b a₁ b₁ la lb, l) at t) ∙ sym (goes-on _ _ (w .progress .end) d))
 
   stays-by : (k i : ℕ) {a₁ b₁ : List ℤ} {w : Swept} → swept a₁ b₁ w ≡ up.sweepUp (roomOf a b) list (start a b) i → isDone (w .progress .end) ≡ false →
       swept a₁ b₁ w ≡ up.sweepUp (roomOf a b) list (start a b) (k + i)
@@ -47,7 +33,7 @@ module _ (a b : List ℤ) (list : ℕ → Edge Point) where
   stays-by zero i s d = let z : 0 + i ≡ i = omega arith in rw z s
   stays-by (suc k) i {a₁} {b₁} {w} s d =
       let z : suc k + i ≡ suc (k + i) = omega arith in
-      rw (z, ← stays-by k i s d) (sym (next-stops _ _ (k + i) (w .progress .end) d))
+      rw (z, ← stays-by k i s d) (sym (stops _ _ (w .progress .end) d))
 
   pub sweep-stays : (n i : ℕ) {a₁ b₁ : List ℤ} {w : Swept} → i ≤ n → swept a₁ b₁ w ≡ up.sweepUp (roomOf a b) list (start a b) i →
       isDone (w .progress .end) ≡ false → swept a₁ b₁ w ≡ up.sweepUp (roomOf a b) list (start a b) n
@@ -56,6 +42,4 @@ module _ (a b : List ℤ) (list : ℕ → Edge Point) where
   -- the records that are written are there
   pub records-there : (n : ℕ) {a₁ b₁ : List ℤ} (w : Swept) → swept a₁ b₁ w ≡ up.sweepUp (roomOf a b) list (start a b) n → 4 * w .progress .records ≤ length b
   unfolding room
-  records-there n w e =
-      let h = sweep-held (roomOf a b) list (start a b) n (omega arith) in
-      omega (arith, h, ap (λ (x : Sweep (List ℤ) (List ℤ)). x .state .records) e)
+  records-there n w e = omega (arith, sweep-within (roomOf a b) list n a b .kept, ap (λ (x : Sweep (List ℤ) (List ℤ)). x .state .records) e)

@@ -107,36 +107,43 @@ module _ (a b : List ℤ) (left level : ℕ) (s : Progress) (e : NamedEdge) {t :
     unfolding up.treat room pointPlaces
     treat-none-left z = rw (z, ← h, k)
 
-    module _ (l : 0 < left) {side : Side} {p : Point} {f : Found} (es : side ≡ up.sideOf pointPlaces (edgeOf e)) (ep : p ≡ up.bottom side (edgeOf e))
-        (ef : f ≡ foundBelow (λ r. hasTip pointPlaces level side p (lookRow a r)) (s .peak)) where
-      steps : up.treat (roomOf a b) left level (state a b s) (edgeOf e) ≡ up.inChain (roomOf a b) (up.treat (roomOf a b) (left - 1) (level + 1)) (state a b s) level side (edgeOf e) f
-      unfolding up.treat up.stepsOn up.find room rows.slices pointPlaces
-      steps = by left l
-        where
-          by : (n : ℕ) → 0 < n →
-              up.treat (roomOf a b) n level (state a b s) (edgeOf e) ≡ up.inChain (roomOf a b) (up.treat (roomOf a b) (n - 1) (level + 1)) (state a b s) level side (edgeOf e) f
-          by zero m = absurd (omega arith)
-          by (suc n) m = let z : suc n - 1 ≡ n = omega arith in rw (← h, k, z, add-one, ef, ep, es)
+-- step 1 has searched: the edge's ends differ, a level is left, and f is what has its bottom for a tip
+pub record Searched (a b : List ℤ) (left level : ℕ) (s : Progress) (e : NamedEdge) (side : Side) (p : Point) (f : Found) : Type 0 where
+  pub apart : isSame (e .tail) (e .head) ≡ false
+  pub above : 0 < left
+  pub side-is : side ≡ up.sideOf pointPlaces (edgeOf e)
+  pub bottom-is : p ≡ up.bottom side (edgeOf e)
+  pub found-is : f ≡ foundBelow (λ r. hasTip pointPlaces level side p (lookRow a r)) (s .peak)
 
-      pub treat-found : {r : ℕ} → f ≡ At r → {a₁ b₁ : List ℤ} {p₁ : Progress} →
-          state a₁ b₁ p₁ ≡ up.onRow (roomOf a b) (up.treat (roomOf a b) (left - 1) (level + 1)) (state a b s) level side (edgeOf e) r →
-          state a₁ b₁ p₁ ≡ up.treat (roomOf a b) left level (state a b s) (edgeOf e)
-      unfolding up.inChain
-      treat-found n i = rw (steps, n) i
+module _ {a b : List ℤ} {left level : ℕ} {s : Progress} {e : NamedEdge} {side : Side} {p : Point} {f : Found} (S : Searched a b left level s e side p f) where
+  steps : up.treat (roomOf a b) left level (state a b s) (edgeOf e) ≡ up.inChain (roomOf a b) (up.treat (roomOf a b) (left - 1) (level + 1)) (state a b s) level side (edgeOf e) f
+  unfolding up.treat up.stepsOn up.find room rows.slices pointPlaces
+  steps = by left (S .above)
+    where
+      by : (n : ℕ) → 0 < n →
+          up.treat (roomOf a b) n level (state a b s) (edgeOf e) ≡ up.inChain (roomOf a b) (up.treat (roomOf a b) (n - 1) (level + 1)) (state a b s) level side (edgeOf e) f
+      by zero m = absurd (omega arith)
+      by (suc n) m = let z : suc n - 1 ≡ n = omega arith in rw (S .apart, z, add-one, S .found-is, S .bottom-is, S .side-is)
 
-      module _ (n : f ≡ Nothing) {r : ℕ} (er : r ≡ first (λ k. not (lookRow a k .used)) (s .peak)) where
-        pub treat-no-row : rowsIn a ≤ r → up.ended NoFreeRow (state a b s) ≡ up.treat (roomOf a b) left level (state a b s) (edgeOf e)
-        unfolding up.inChain room
-        treat-no-row m = rw (steps, n, ← lowest-is a s er b, le-ltb r (rowsIn a) m)
+  pub treat-found : {r : ℕ} → f ≡ At r → {a₁ b₁ : List ℤ} {p₁ : Progress} →
+      state a₁ b₁ p₁ ≡ up.onRow (roomOf a b) (up.treat (roomOf a b) (left - 1) (level + 1)) (state a b s) level side (edgeOf e) r →
+      state a₁ b₁ p₁ ≡ up.treat (roomOf a b) left level (state a b s) (edgeOf e)
+  unfolding up.inChain
+  treat-found n i = rw (steps, n) i
 
-        module _ (m : r < rowsIn a) where
-          in-free-row : (next : Next) →
-              up.inChain (roomOf a b) next (state a b s) level side (edgeOf e) Nothing ≡ up.onRow (roomOf a b) next (up.open-row (roomOf a b) (state a b s) r level p) level side (edgeOf e) r
-          unfolding up.inChain room
-          in-free-row next = rw (← lowest-is a s er b, lt-ltb r (rowsIn a) m, ep)
+  module _ (n : f ≡ Nothing) {r : ℕ} (er : r ≡ first (λ k. not (lookRow a k .used)) (s .peak)) where
+    pub treat-no-row : rowsIn a ≤ r → up.ended NoFreeRow (state a b s) ≡ up.treat (roomOf a b) left level (state a b s) (edgeOf e)
+    unfolding up.inChain room
+    treat-no-row m = rw (steps, n, ← lowest-is a s er b, le-ltb r (rowsIn a) m)
 
-          pub treat-opened : {a₁ : List ℤ} {p₁ : Progress} → state a₁ b p₁ ≡ up.open-row (roomOf a b) (state a b s) r level p → length a₁ ≡ length a →
-              {a₂ b₂ : List ℤ} {p₂ : Progress} →
-              state a₂ b₂ p₂ ≡ up.onRow (roomOf a₁ b) (up.treat (roomOf a₁ b) (left - 1) (level + 1)) (state a₁ b p₁) level side (edgeOf e) r →
-              state a₂ b₂ p₂ ≡ up.treat (roomOf a b) left level (state a b s) (edgeOf e)
-          treat-opened {a₁} o la j = rw (steps, n, in-free-row, ← o) (rw (same-room a b a₁ b la refl) at j)
+    module _ (m : r < rowsIn a) where
+      in-free-row : (next : Next) →
+          up.inChain (roomOf a b) next (state a b s) level side (edgeOf e) Nothing ≡ up.onRow (roomOf a b) next (up.open-row (roomOf a b) (state a b s) r level p) level side (edgeOf e) r
+      unfolding up.inChain room
+      in-free-row next = rw (← lowest-is a s er b, lt-ltb r (rowsIn a) m, S .bottom-is)
+
+      pub treat-opened : {a₁ : List ℤ} {p₁ : Progress} → state a₁ b p₁ ≡ up.open-row (roomOf a b) (state a b s) r level p → length a₁ ≡ length a →
+          {a₂ b₂ : List ℤ} {p₂ : Progress} →
+          state a₂ b₂ p₂ ≡ up.onRow (roomOf a₁ b) (up.treat (roomOf a₁ b) (left - 1) (level + 1)) (state a₁ b p₁) level side (edgeOf e) r →
+          state a₂ b₂ p₂ ≡ up.treat (roomOf a b) left level (state a b s) (edgeOf e)
+      treat-opened {a₁} o la j = rw (steps, n, in-free-row, ← o) (rw (same-room a b a₁ b la refl) at j)

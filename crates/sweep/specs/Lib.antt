@@ -1,2 +1,3 @@
+-- What the two sweeps mean on the lent slices.
 pub mod Slices
 pub mod Lookup

@@ -24,7 +24,7 @@ pub struct Progress {
 }
 
 impl Progress {
-    pub fn ended(self, end: End) -> Progress
+    fn ended(self, end: End) -> Progress
         ensures { λ p. ⌜ ((a b : List ℤ) → state a b p ≡ up.ended end (state a b self)) ⌝ }
     {
         Progress {
@@ -35,7 +35,7 @@ impl Progress {
     }
 
     // One record more.
-    pub fn recorded(self) -> Progress
+    fn recorded(self) -> Progress
         requires { ⌜ self .records < 18446744073709551615 ⌝ }
         ensures { λ p. ⌜ p ≡ record { records = self .records + 1; peak = self .peak; end = self .end } ⌝ }
     {
@@ -48,7 +48,7 @@ impl Progress {
     }
 
     // So many rows in use, which may be a new peak.
-    pub fn in_use(self, n: usize) -> Progress
+    fn in_use(self, n: usize) -> Progress
         ensures { λ p. ⌜ p ≡ record { records = self .records; peak = max (self .peak) n; end = self .end } ⌝ }
     {
         let end = self.end;
@@ -72,17 +72,17 @@ impl Progress {
 }
 
 // An edge of any level: its name, its ends and its two lengths.
-pub struct NamedEdge {
-    pub name: usize,
-    pub tail: Point,
-    pub head: Point,
-    pub rising: u32,
-    pub falling: u32,
+struct NamedEdge {
+    name: usize,
+    tail: Point,
+    head: Point,
+    rising: u32,
+    falling: u32,
 }
 
 impl NamedEdge {
     // An up edge works on the rising side of its chain.
-    pub fn side(self) -> Side
+    fn side(self) -> Side
         ensures { λ s. ⌜ s ≡ up.sideOf pointPlaces (edgeOf self) ⌝ }
     {
         let tail = self.tail;
@@ -94,7 +94,7 @@ impl NamedEdge {
     }
 
     // The lower end, where the edge works on the side; on the other side that is the higher end.
-    pub fn bottom(self, side: Side) -> Point
+    fn bottom(self, side: Side) -> Point
         ensures { λ p. ⌜ p ≡ up.bottom side (edgeOf self) ⌝ }
     {
         match side {
@@ -103,7 +103,7 @@ impl NamedEdge {
         }
     }
 
-    pub fn length(self, side: Side) -> u32
+    fn length(self, side: Side) -> u32
         ensures { λ n. ⌜ (n ≡ on side (edgeOf self .length)) × (n ≤ self .falling + self .rising) ⌝ }
     {
         match side {

@@ -5,9 +5,6 @@ use Rattle.rows.specs.Layout.{pointPlaces}
 use Rattle.sweep.proofs.NamedEdge.side.Statement.{statement}
 use Rattle.sweep.proofs.NamedEdge.side.Tie as tie
 
-below-requires : tie.Need-below-requires
-below-requires c κs = search needs
-
 returns : tie.Need-returns
 unfolding pointPlaces
 returns c = rw (sym (c .before .below .ensures) ∙ c .if1 .taken)
@@ -17,4 +14,4 @@ unfolding pointPlaces
 returns-2 c = rw (sym (c .before .below .ensures) ∙ c .if1 .left)
 
 pub side-spec : {M : Type 1} → statement M
-side-spec = tie.close (tie.spec below-requires returns returns-2)
+side-spec = tie.close (tie.spec (search needs) returns returns-2)

@@ -3,11 +3,8 @@ use borrow.Author.Needs.{needs}
 use Rattle.sweep.proofs.Progress.in_use.Statement.{statement}
 use Rattle.sweep.proofs.Progress.in_use.Tie as tie
 
-higher-of-requires : tie.Need-higher-of-requires
-higher-of-requires c κs = search needs
-
 returns : tie.Need-returns
 returns c = rw (c .higher-of .ensures)
 
 pub in-use-spec : {M : Type 1} → statement M
-in-use-spec = tie.close (tie.spec higher-of-requires returns)
+in-use-spec = tie.close (tie.spec (search needs) returns)

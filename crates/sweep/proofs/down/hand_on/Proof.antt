@@ -7,48 +7,6 @@ use Rattle.journal.specs.Layout.{readRecord}
 use Rattle.sweep.proofs.down.hand_on.Statement.{statement}
 use Rattle.sweep.proofs.down.hand_on.Tie as tie
 
-name-at-requires : tie.Need-name-at-requires
-name-at-requires c κs = search needs
-
-offset-at-requires : tie.Need-offset-at-requires
-offset-at-requires c κs = search needs
-
-polygon-of-requires : tie.Need-polygon-of-requires
-polygon-of-requires c κs = search needs
-
-sequence-of-requires : tie.Need-sequence-of-requires
-sequence-of-requires c κs = search needs
-
-level-at-requires : tie.Need-level-at-requires
-level-at-requires c κs = search needs
-
-answer-requires : tie.Need-answer-requires
-answer-requires c κs = search needs
-
-natural-sum-requires : tie.Need-natural-sum-requires
-natural-sum-requires c κs = search needs
-
-answer-requires-2 : tie.Need-answer-requires-2
-answer-requires-2 c κs = search needs
-
-cast-give : tie.Need-cast-give
-cast-give c = search needs
-
-narrow-sum-requires : tie.Need-narrow-sum-requires
-narrow-sum-requires c κs = search needs
-
-give-requires : tie.Need-give-requires
-give-requires c κs = search needs
-
-same-length : tie.Need-same-length
-same-length c = search needs
-
-same-length-2 : tie.Need-same-length-2
-same-length-2 c = search needs
-
-same-length-3 : tie.Need-same-length-3
-same-length-3 c = search needs
-
 returns : tie.Need-returns
 returns c =
     let c₂ = c .before .before in
@@ -69,9 +27,6 @@ returns c =
     let sequence = rw (name, c₃ .natural-sum .ensures, read-back (z .result) (z .ok), read-back (o .result) (o .ok), z .ensures, o .ensures) at (c₂ .answer2 .ensures) in
     λ n. read-answer (g .rows .now) (g .polygons .now) (g .sequences .now) n (readRecord (g .journal .now) (g .k)) (g .r)
     (sym (c₁₀ .level-at .ensures) ∙ c₉ .if1 .taken) polygon sequence
-
-same-length-4 : tie.Need-same-length-4
-same-length-4 c = search needs
 
 returns-2 : tie.Need-returns-2
 returns-2 c =
@@ -96,20 +51,5 @@ pub hand-on-spec : {M : Type 1} → statement M
 hand-on-spec =
     tie.close
     (tie.spec
-    name-at-requires
-    offset-at-requires
-    polygon-of-requires
-    sequence-of-requires
-    level-at-requires
-    answer-requires
-    natural-sum-requires
-    answer-requires-2
-    cast-give
-    narrow-sum-requires
-    give-requires
-    same-length
-    same-length-2
-    same-length-3
-    returns
-    same-length-4
-    returns-2)
+    (search needs) (search needs) (search needs) (search needs) (search needs) (search needs) (search needs) (search needs) (search needs) (search needs) (search needs) (search needs) (search needs) (search needs) returns
+    (search needs) returns-2)

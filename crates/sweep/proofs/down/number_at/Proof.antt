@@ -6,12 +6,6 @@ use lib.ListN.{List·getD-eq-default}
 use Rattle.sweep.proofs.down.number_at.Statement.{statement}
 use Rattle.sweep.proofs.down.number_at.Tie as tie
 
-mul-result : tie.Need-mul-result
-mul-result c = search needs
-
-shared-slice-copy-out-result : tie.Need-shared-slice-copy-out-result
-shared-slice-copy-out-result c = search needs
-
 returns : tie.Need-returns
 returns c = search needs
 
@@ -19,4 +13,4 @@ returns-2 : tie.Need-returns-2
 returns-2 c = sym (List·getD-eq-default (c .before .args .s .now) (pos 0) (c .if1 .left))
 
 pub number-at-spec : {M : Type 1} → statement M
-number-at-spec = tie.close (tie.spec mul-result shared-slice-copy-out-result returns returns-2)
+number-at-spec = tie.close (tie.spec (search needs) (search needs) returns returns-2)

@@ -5,18 +5,9 @@ use Rattle.sweep.specs.Lookup.{numbersIn}
 use Rattle.sweep.proofs.down.polygon_of.Statement.{statement}
 use Rattle.sweep.proofs.down.polygon_of.Tie as tie
 
-mul-number-at : tie.Need-mul-number-at
-mul-number-at c = search needs
-
-number-at-requires : tie.Need-number-at-requires
-number-at-requires c κs = search needs
-
-natural-requires : tie.Need-natural-requires
-natural-requires c κs = search needs
-
 returns : tie.Need-returns
 unfolding numbersIn
 returns c = rw (read-back _ (c .before .number-at .ok), c .before .number-at .ensures) at (c .natural .ensures)
 
 pub polygon-of-spec : {M : Type 1} → statement M
-polygon-of-spec = tie.close (tie.spec mul-number-at number-at-requires natural-requires returns)
+polygon-of-spec = tie.close (tie.spec (search needs) (search needs) (search needs) returns)

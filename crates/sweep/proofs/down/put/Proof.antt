@@ -5,15 +5,6 @@ use lib.Seq.{set-out}
 use Rattle.sweep.proofs.down.put.Statement.{statement}
 use Rattle.sweep.proofs.down.put.Tie as tie
 
-mul-z : tie.Need-mul-z
-mul-z c = search needs
-
-slice-set-from-z : tie.Need-slice-set-from-z
-slice-set-from-z c = search needs
-
-same-length : tie.Need-same-length
-same-length c = search needs
-
 returns : tie.Need-returns
 returns c = search needs
 
@@ -21,4 +12,4 @@ returns-2 : tie.Need-returns-2
 returns-2 c = sym (set-out (c .before .args .s .now) (c .before .args .i) (c .before .args .z) (c .if1 .left))
 
 pub put-spec : {M : Type 1} → statement M
-put-spec = tie.close (tie.spec mul-z slice-set-from-z same-length returns returns-2)
+put-spec = tie.close (tie.spec (search needs) (search needs) (search needs) returns returns-2)

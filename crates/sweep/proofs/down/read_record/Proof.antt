@@ -7,33 +7,6 @@ use Rattle.journal.specs.Layout.{readRecord}
 use Rattle.sweep.proofs.down.read_record.Statement.{statement}
 use Rattle.sweep.proofs.down.read_record.Tie as tie
 
-chain-at-requires : tie.Need-chain-at-requires
-chain-at-requires c κs = search needs
-
-enum-known-r : tie.Need-enum-known-r
-enum-known-r c = search needs
-
-enum-told : tie.Need-enum-told
-enum-told c = search needs
-
-name-at-requires : tie.Need-name-at-requires
-name-at-requires c κs = search needs
-
-offset-at-requires : tie.Need-offset-at-requires
-offset-at-requires c κs = search needs
-
-add-give : tie.Need-add-give
-add-give c = search needs
-
-give-requires : tie.Need-give-requires
-give-requires c κs = search needs
-
-add-result : tie.Need-add-result
-add-result c = search needs
-
-same-length : tie.Need-same-length
-same-length c = search needs
-
 returns : tie.Need-returns
 returns c =
     let c₁ = c .before in
@@ -53,15 +26,6 @@ returns c =
 hand-on-requires : tie.Need-hand-on-requires
 hand-on-requires c κs = (search needs, rw (c .before .before .before .before .r .given .1) at (c .before .before .before .before .before .before .chain-at .ensures .1))
 
-same-length-2 : tie.Need-same-length-2
-same-length-2 c = search needs
-
-same-length-3 : tie.Need-same-length-3
-same-length-3 c = search needs
-
-same-length-4 : tie.Need-same-length-4
-same-length-4 c = search needs
-
 returns-2 : tie.Need-returns-2
 returns-2 c =
     let c₅ = c .before .before .before .before .before in
@@ -76,18 +40,6 @@ pub read-record-spec : {M : Type 1} → statement M
 read-record-spec =
     tie.close
     (tie.spec
-    chain-at-requires
-    enum-known-r
-    enum-told
-    name-at-requires
-    offset-at-requires
-    add-give
-    give-requires
-    add-result
-    same-length
-    returns
+    (search needs) (search needs) (search needs) (search needs) (search needs) (search needs) (search needs) (search needs) (search needs) returns
     hand-on-requires
-    same-length-2
-    same-length-3
-    same-length-4
-    returns-2)
+    (search needs) (search needs) (search needs) returns-2)

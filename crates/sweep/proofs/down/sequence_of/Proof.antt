@@ -6,18 +6,9 @@ use mathlib.Core.Path.{_∙_}
 use Rattle.sweep.proofs.down.sequence_of.Statement.{statement}
 use Rattle.sweep.proofs.down.sequence_of.Tie as tie
 
-mul-number-at : tie.Need-mul-number-at
-mul-number-at c = search needs
-
-add-number-at : tie.Need-add-number-at
-add-number-at c = search needs
-
-number-at-requires : tie.Need-number-at-requires
-number-at-requires c κs = search needs
-
 returns : tie.Need-returns
 unfolding numbersIn
 returns c = read-back (c .number-at .result) (c .number-at .ok) ∙ c .number-at .ensures
 
 pub sequence-of-spec : {M : Type 1} → statement M
-sequence-of-spec = tie.close (tie.spec mul-number-at add-number-at number-at-requires returns)
+sequence-of-spec = tie.close (tie.spec (search needs) (search needs) (search needs) returns)

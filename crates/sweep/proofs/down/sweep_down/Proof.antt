@@ -25,15 +25,6 @@ abbrev μ-loop : tie.MeasureT-loop
 loop-holds : tie.Need-loop-holds Inv-loop μ-loop
 loop-holds c = (search needs, search needs, search needs, search needs, refl)
 
-sub-k : tie.Need-sub-k Inv-loop μ-loop
-sub-k c = search needs
-
-read-record-requires : tie.Need-read-record-requires Inv-loop μ-loop
-read-record-requires c κs = search needs
-
-loop-less : tie.Need-loop-less Inv-loop μ-loop
-loop-less c = search needs
-
 loop-again : tie.Need-loop-again Inv-loop μ-loop
 loop-again c =
     let c₅ = c .before .before .before .before .before in
@@ -50,15 +41,6 @@ loop-again c =
       down-more (c₁₃ .args .journal .now) (c₁₀ .loop .k) left _ _ (r .ensures .0) ∙ v .4,
     )
 
-same-length : tie.Need-same-length Inv-loop μ-loop
-same-length c = search needs
-
-same-length-2 : tie.Need-same-length-2 Inv-loop μ-loop
-same-length-2 c = search needs
-
-same-length-3 : tie.Need-same-length-3 Inv-loop μ-loop
-same-length-3 c = search needs
-
 returns : tie.Need-returns Inv-loop μ-loop
 returns c =
     let c₁ = c .before in
@@ -74,11 +56,5 @@ sweep-down-spec =
     Inv-loop
     μ-loop
     loop-holds
-    sub-k
-    read-record-requires
-    loop-less
-    loop-again
-    same-length
-    same-length-2
-    same-length-3
-    returns)
+    (search needs) (search needs) (search needs) loop-again
+    (search needs) (search needs) (search needs) returns)

@@ -10,9 +10,7 @@ use Rattle.steps.specs.SweepUp as up
 use Rattle.rows.proofs.Searching.{found-there}
 use Rattle.sweep.specs.Slices.{roomOf}
 use Rattle.sweep.proofs.Rooms.{lowest-is}
-use Rattle.sweep.proofs.Ways.{up-unfinished, up-stopped, up-freed, both-one, both-stopped, both-passed, row-stopped, row-unmet, row-met, treat-closed, treat-none-left, treat-found, treat-no-row, treat-opened}
-use Rattle.steps.specs.SweepUp as up
-use Rattle.steps.specs.SweepUp as up
+use Rattle.sweep.proofs.Ways.{up-unfinished, up-stopped, up-freed, both-one, both-stopped, both-passed, row-stopped, row-unmet, row-met, treat-closed, treat-none-left, Searched, treat-found, treat-no-row, treat-opened}
 use borrow.Fn.Kinds.{In}
 use borrow.Fn.PlainCycle.{Measures, is, falls, and}
 use Rattle.sweep.proofs.treating.on_row.Reads as on-row
@@ -147,18 +145,6 @@ on-row-calls t = (
   pass-both.Post,
 )
 
-on-row-attach-requires : (t : ℕ) → on-row-lts.Need-attach-requires (on-row-calls t) (on-row-at t) on-row.Post
-on-row-attach-requires t c κs = search needs
-
-on-row-is-done-requires : (t : ℕ) → on-row-lts.Need-is-done-requires (on-row-calls t) (on-row-at t) on-row.Post
-on-row-is-done-requires t c κs = search needs
-
-on-row-same-length : (t : ℕ) → on-row-lts.Need-same-length (on-row-calls t) (on-row-at t) on-row.Post
-on-row-same-length t c = search needs
-
-on-row-same-length-2 : (t : ℕ) → on-row-lts.Need-same-length-2 (on-row-calls t) (on-row-at t) on-row.Post
-on-row-same-length-2 t c = search needs
-
 on-row-returns : (t : ℕ) → on-row-lts.Need-returns (on-row-calls t) (on-row-at t) on-row.Post
 on-row-returns t c =
     let c₁ = c .before in
@@ -166,27 +152,6 @@ on-row-returns t c =
     let c₇ = c₄ .before .before .before in
     let g = c₇ .args in
     row-stopped (g .rows .now) (g .journal .now) (g .left - 1) (g .level) (g .s) (g .level + 1) (g .side) (g .e) (g .r) (c₄ .attach .ensures) (sym (c₁ .is-done .ensures) ∙ not-true _ (c .if1 .taken))
-
-on-row-other-requires : (t : ℕ) → on-row-lts.Need-other-requires (on-row-calls t) (on-row-at t) on-row.Post
-on-row-other-requires t c κs = search needs
-
-on-row-bottom-requires : (t : ℕ) → on-row-lts.Need-bottom-requires (on-row-calls t) (on-row-at t) on-row.Post
-on-row-bottom-requires t c κs = search needs
-
-on-row-find-requires : (t : ℕ) → on-row-lts.Need-find-requires (on-row-calls t) (on-row-at t) on-row.Post
-on-row-find-requires t c κs = search needs
-
-on-row-enum-known-q : (t : ℕ) → on-row-lts.Need-enum-known-q (on-row-calls t) (on-row-at t) on-row.Post
-on-row-enum-known-q t c = search needs
-
-on-row-enum-told : (t : ℕ) → on-row-lts.Need-enum-told (on-row-calls t) (on-row-at t) on-row.Post
-on-row-enum-told t c = search needs
-
-on-row-same-length-3 : (t : ℕ) → on-row-lts.Need-same-length-3 (on-row-calls t) (on-row-at t) on-row.Post
-on-row-same-length-3 t c = search needs
-
-on-row-same-length-4 : (t : ℕ) → on-row-lts.Need-same-length-4 (on-row-calls t) (on-row-at t) on-row.Post
-on-row-same-length-4 t c = search needs
 
 on-row-returns-2 : (t : ℕ) → on-row-lts.Need-returns-2 (on-row-calls t) (on-row-at t) on-row.Post
 on-row-returns-2 t c =
@@ -207,28 +172,16 @@ on-row-finish-requires t c κs =
     let c₄ = c₂ .before .before in
     found-there _ _ _ _ _ _ (sym (c₄ .find .ensures) ∙ c₂ .q .given .1)
 
-on-row-finish-requires-2 : (t : ℕ) → on-row-lts.Need-finish-requires-2 (on-row-calls t) (on-row-at t) on-row.Post
-on-row-finish-requires-2 t c κs = search needs
-
 on-row-pass-both-requires : (t : ℕ) → on-row-lts.Need-pass-both-requires (on-row-calls t) (on-row-at t) on-row.Post
 on-row-pass-both-requires t c κs =
     let c₃ = c .before .before .before in
     let c₆ = c₃ .before .before .before in
-    let c₉ = c₆ .before .before .before in
-    let c₁₁ = c₉ .before .before in
-    let c₁₉ = c₁₁ .before .before .before .before .before .before .before .before in
-    let c₂₂ = c₁₉ .before .before .before in
-    let has = found-there _ _ _ _ _ _ (sym (c₁₁ .find .ensures) ∙ c₉ .q .given .1) in
+    let c₁₉ = c₆ .before .before .before .before .before .before .before .before .before .before .before .before .before in
+    let has = on-row-finish-requires t (c₆ .before) (κs .0, tt) in
     let k = c₆ .finish .kept .0 in
     let l = c₃ .finish2 .kept .0 in
-    let pre = c₂₂ .pre in
+    let pre = c₁₉ .before .before .before .pre in
     (omega (arith, pre .0), (omega (arith, has, k, l), omega (arith, pre .1 .0, c₁₉ .attach .kept .0, k, l), omega (arith, pre .1 .1), omega (arith, pre .1 .2)))
-
-on-row-same-length-5 : (t : ℕ) → on-row-lts.Need-same-length-5 (on-row-calls t) (on-row-at t) on-row.Post
-on-row-same-length-5 t c = search needs
-
-on-row-same-length-6 : (t : ℕ) → on-row-lts.Need-same-length-6 (on-row-calls t) (on-row-at t) on-row.Post
-on-row-same-length-6 t c = search needs
 
 on-row-returns-3 : (t : ℕ) → on-row-lts.Need-returns-3 (on-row-calls t) (on-row-at t) on-row.Post
 on-row-returns-3 t c =
@@ -249,30 +202,12 @@ on-row-returns-3 t c =
     (c₁₇ .other .ensures) (c₁₆ .bottom .ensures) (c₁₄ .find .ensures) (c₁₂ .q .given .1) (c₉ .finish .ensures) (c₆ .finish2 .ensures)
     la (c₂₂ .attach .kept .1 .0) (c₂ .pass-both .ensures)
 
-pass-both-pass-up-requires : (t : ℕ) → pass-both-lts.Need-pass-up-requires (pass-both-calls t) (pass-both-at t) pass-both.Post
-pass-both-pass-up-requires t c κs = search needs
-
-pass-both-same-length : (t : ℕ) → pass-both-lts.Need-same-length (pass-both-calls t) (pass-both-at t) pass-both.Post
-pass-both-same-length t c = search needs
-
-pass-both-same-length-2 : (t : ℕ) → pass-both-lts.Need-same-length-2 (pass-both-calls t) (pass-both-at t) pass-both.Post
-pass-both-same-length-2 t c = search needs
-
 pass-both-returns : (t : ℕ) → pass-both-lts.Need-returns (pass-both-calls t) (pass-both-at t) pass-both.Post
 pass-both-returns t c =
     let c₃ = c .before .before .before in
     let c₆ = c₃ .before .before .before in
     let g = c₆ .args in
     both-one (g .rows .now) (g .journal .now) (g .left - 1) (g .level + 1) (g .s) (g .q) (g .r) (c₃ .pass-up .ensures) (c .if1 .taken)
-
-pass-both-is-done-requires : (t : ℕ) → pass-both-lts.Need-is-done-requires (pass-both-calls t) (pass-both-at t) pass-both.Post
-pass-both-is-done-requires t c κs = search needs
-
-pass-both-same-length-3 : (t : ℕ) → pass-both-lts.Need-same-length-3 (pass-both-calls t) (pass-both-at t) pass-both.Post
-pass-both-same-length-3 t c = search needs
-
-pass-both-same-length-4 : (t : ℕ) → pass-both-lts.Need-same-length-4 (pass-both-calls t) (pass-both-at t) pass-both.Post
-pass-both-same-length-4 t c = search needs
 
 pass-both-returns-2 : (t : ℕ) → pass-both-lts.Need-returns-2 (pass-both-calls t) (pass-both-at t) pass-both.Post
 pass-both-returns-2 t c =
@@ -282,15 +217,6 @@ pass-both-returns-2 t c =
     let c₈ = c₅ .before .before .before in
     let g = c₈ .args in
     both-stopped (g .rows .now) (g .journal .now) (g .left - 1) (g .level + 1) (g .s) (g .q) (g .r) (c₅ .pass-up .ensures) (c₂ .if1 .left) (sym (c₁ .is-done .ensures) ∙ not-true _ (c .if2 .taken))
-
-pass-both-pass-up-requires-2 : (t : ℕ) → pass-both-lts.Need-pass-up-requires-2 (pass-both-calls t) (pass-both-at t) pass-both.Post
-pass-both-pass-up-requires-2 t c κs = search needs
-
-pass-both-same-length-5 : (t : ℕ) → pass-both-lts.Need-same-length-5 (pass-both-calls t) (pass-both-at t) pass-both.Post
-pass-both-same-length-5 t c = search needs
-
-pass-both-same-length-6 : (t : ℕ) → pass-both-lts.Need-same-length-6 (pass-both-calls t) (pass-both-at t) pass-both.Post
-pass-both-same-length-6 t c = search needs
 
 pass-both-returns-3 : (t : ℕ) → pass-both-lts.Need-returns-3 (pass-both-calls t) (pass-both-at t) pass-both.Post
 pass-both-returns-3 t c =
@@ -304,39 +230,12 @@ pass-both-returns-3 t c =
     both-passed (g .rows .now) (g .journal .now) (g .left - 1) (g .level + 1) (g .s) (g .q) (g .r) (c₁₀ .pass-up .ensures) (c₇ .if1 .left) (sym (c₆ .is-done .ensures) ∙ not-false _ (c₅ .if2 .left))
     (c₁₀ .pass-up .kept .0) (c₁₀ .pass-up .kept .1 .0) (c₂ .pass-up2 .ensures)
 
-pass-up-both-finished-requires : (t : ℕ) → pass-up-lts.Need-both-finished-requires (pass-up-calls t) (pass-up-at t) pass-up.Post
-pass-up-both-finished-requires t c κs = search needs
-
-pass-up-same-length : (t : ℕ) → pass-up-lts.Need-same-length (pass-up-calls t) (pass-up-at t) pass-up.Post
-pass-up-same-length t c = search needs
-
 pass-up-returns : (t : ℕ) → pass-up-lts.Need-returns (pass-up-calls t) (pass-up-at t) pass-up.Post
 pass-up-returns t c =
     let c₁ = c .before in
     let c₃ = c₁ .before .before in
     let g = c₃ .args in
     up-unfinished (g .rows .now) (g .journal .now) (up.treat (roomOf (g .rows .now) (g .journal .now)) (g .left - 1) (g .level + 1)) (g .s) (g .r) (c₁ .both-finished .ensures) (not-true _ (c .if1 .taken))
-
-pass-up-as-edge-requires : (t : ℕ) → pass-up-lts.Need-as-edge-requires (pass-up-calls t) (pass-up-at t) pass-up.Post
-pass-up-as-edge-requires t c κs = search needs
-
-pass-up-add-treat : (t : ℕ) → pass-up-lts.Need-add-treat (pass-up-calls t) (pass-up-at t) pass-up.Post
-pass-up-add-treat t c = search needs
-
-pass-up-sub-treat : (t : ℕ) → pass-up-lts.Need-sub-treat (pass-up-calls t) (pass-up-at t) pass-up.Post
-pass-up-sub-treat t c = search needs
-
-pass-up-treat-requires : (t : ℕ) → pass-up-lts.Need-treat-requires (pass-up-calls t) (pass-up-at t) pass-up.Post
-pass-up-treat-requires t c κs = search needs
-
-pass-up-is-done-requires : (t : ℕ) → pass-up-lts.Need-is-done-requires (pass-up-calls t) (pass-up-at t) pass-up.Post
-pass-up-is-done-requires t c κs = search needs
-
-pass-up-same-length-2 : (t : ℕ) → pass-up-lts.Need-same-length-2 (pass-up-calls t) (pass-up-at t) pass-up.Post
-pass-up-same-length-2 t c = search needs
-
-pass-up-same-length-3 : (t : ℕ) → pass-up-lts.Need-same-length-3 (pass-up-calls t) (pass-up-at t) pass-up.Post
-pass-up-same-length-3 t c = search needs
 
 pass-up-returns-2 : (t : ℕ) → pass-up-lts.Need-returns-2 (pass-up-calls t) (pass-up-at t) pass-up.Post
 pass-up-returns-2 t c =
@@ -349,15 +248,6 @@ pass-up-returns-2 t c =
     let g = c₁₂ .args in
     up-stopped (g .rows .now) (g .journal .now) (up.treat (roomOf (g .rows .now) (g .journal .now)) (g .left - 1) (g .level + 1)) (g .s) (g .r) (c₁₀ .both-finished .ensures) (not-false _ (c₉ .if1 .left))
     (c₇ .as-edge .ensures .0) (c₄ .treat .ensures) (sym (c₁ .is-done .ensures) ∙ not-true _ (c .if2 .taken))
-
-pass-up-free-row-requires : (t : ℕ) → pass-up-lts.Need-free-row-requires (pass-up-calls t) (pass-up-at t) pass-up.Post
-pass-up-free-row-requires t c κs = search needs
-
-pass-up-same-length-4 : (t : ℕ) → pass-up-lts.Need-same-length-4 (pass-up-calls t) (pass-up-at t) pass-up.Post
-pass-up-same-length-4 t c = search needs
-
-pass-up-same-length-5 : (t : ℕ) → pass-up-lts.Need-same-length-5 (pass-up-calls t) (pass-up-at t) pass-up.Post
-pass-up-same-length-5 t c = search needs
 
 pass-up-returns-3 : (t : ℕ) → pass-up-lts.Need-returns-3 (pass-up-calls t) (pass-up-at t) pass-up.Post
 pass-up-returns-3 t c =
@@ -373,15 +263,6 @@ pass-up-returns-3 t c =
     up-freed (g .rows .now) (g .journal .now) (up.treat (roomOf (g .rows .now) (g .journal .now)) (g .left - 1) (g .level + 1)) (g .s) (g .r) (c₁₃ .both-finished .ensures) (not-false _ (c₁₂ .if1 .left))
     (c₁₀ .as-edge .ensures .0) (c₇ .treat .ensures) (sym (c₄ .is-done .ensures) ∙ not-false _ (c₃ .if2 .left)) (c₁ .free-row .ensures)
 
-treat-same-requires : (t : ℕ) → treat-lts.Need-same-requires (treat-calls t) (treat-at t) treat.Post
-treat-same-requires t c κs = search needs
-
-treat-close-requires : (t : ℕ) → treat-lts.Need-close-requires (treat-calls t) (treat-at t) treat.Post
-treat-close-requires t c κs = search needs
-
-treat-same-length : (t : ℕ) → treat-lts.Need-same-length (treat-calls t) (treat-at t) treat.Post
-treat-same-length t c = search needs
-
 treat-returns : (t : ℕ) → treat-lts.Need-returns (treat-calls t) (treat-at t) treat.Post
 treat-returns t c =
     let c₁ = c .before in
@@ -390,9 +271,6 @@ treat-returns t c =
     let c₆ = c₄ .before .before in
     let g = c₆ .args in
     treat-closed (g .rows .now) (g .journal .now) (g .left) (g .level) (g .s) (g .e) (c₄ .same .ensures) (c₃ .if1 .taken) (c₁ .close .ensures (g .rows .now))
-
-treat-ended-requires : (t : ℕ) → treat-lts.Need-ended-requires (treat-calls t) (treat-at t) treat.Post
-treat-ended-requires t c κs = search needs
 
 treat-returns-2 : (t : ℕ) → treat-lts.Need-returns-2 (treat-calls t) (treat-at t) treat.Post
 treat-returns-2 t c =
@@ -403,32 +281,23 @@ treat-returns-2 t c =
     let g = c₅ .args in
     c .ended .ensures (g .rows .now) (g .journal .now) ∙ treat-none-left (g .rows .now) (g .journal .now) (g .left) (g .level) (g .s) (g .e) (c₃ .same .ensures) (c₂ .if1 .left) (c₁ .if2 .taken)
 
-treat-side-requires : (t : ℕ) → treat-lts.Need-side-requires (treat-calls t) (treat-at t) treat.Post
-treat-side-requires t c κs = search needs
-
-treat-bottom-requires : (t : ℕ) → treat-lts.Need-bottom-requires (treat-calls t) (treat-at t) treat.Post
-treat-bottom-requires t c κs = search needs
-
-treat-find-requires : (t : ℕ) → treat-lts.Need-find-requires (treat-calls t) (treat-at t) treat.Post
-treat-find-requires t c κs = search needs
-
-treat-enum-known-r : (t : ℕ) → treat-lts.Need-enum-known-r (treat-calls t) (treat-at t) treat.Post
-treat-enum-known-r t c = search needs
-
-treat-enum-told : (t : ℕ) → treat-lts.Need-enum-told (treat-calls t) (treat-at t) treat.Post
-treat-enum-told t c = search needs
-
-treat-lowest-free-requires : (t : ℕ) → treat-lts.Need-lowest-free-requires (treat-calls t) (treat-at t) treat.Post
-treat-lowest-free-requires t c κs = search needs
-
-treat-rows-in-requires : (t : ℕ) → treat-lts.Need-rows-in-requires (treat-calls t) (treat-at t) treat.Post
-treat-rows-in-requires t c κs = search needs
-
-treat-ended-requires-2 : (t : ℕ) → treat-lts.Need-ended-requires-2 (treat-calls t) (treat-at t) treat.Post
-treat-ended-requires-2 t c κs = search needs
-
-treat-same-length-2 : (t : ℕ) → treat-lts.Need-same-length-2 (treat-calls t) (treat-at t) treat.Post
-treat-same-length-2 t c = search needs
+-- what the three ways out behind the search share
+searched : (t : ℕ) (c : treat-lts.After-find (treat-calls t) (treat-at t) treat.Post) →
+    let c₂ = c .before .before in
+    let g = c₂ .before .before .before .before .before .before .args in
+    Searched (g .rows .now) (g .journal .now) (g .left) (g .level) (g .s) (g .e) (c₂ .before .side .result) (c₂ .bottom .result) (c .find .result)
+searched t c =
+    let c₂ = c .before .before in
+    let c₃ = c₂ .before in
+    let c₄ = c₃ .before in
+    let c₅ = c₄ .before in
+    record {
+      apart = sym (c₅ .before .same .ensures) ∙ c₅ .if1 .left;
+      above = omega (arith, c₄ .if2 .left);
+      side-is = c₃ .side .ensures;
+      bottom-is = c₂ .bottom .ensures;
+      found-is = c .find .ensures;
+    }
 
 treat-returns-3 : (t : ℕ) → treat-lts.Need-returns-3 (treat-calls t) (treat-at t) treat.Post
 treat-returns-3 t c =
@@ -436,17 +305,8 @@ treat-returns-3 t c =
     let c₂ = c₁ .before in
     let c₄ = c₂ .before .before in
     let c₆ = c₄ .before .before in
-    let c₈ = c₆ .before .before in
-    let c₁₀ = c₈ .before .before in
-    let c₁₁ = c₁₀ .before in
-    let c₁₂ = c₁₁ .before in
-    let c₁₃ = c₁₂ .before in
-    let c₁₄ = c₁₃ .before in
-    let c₁₆ = c₁₄ .before .before in
-    let g = c₁₆ .args in
-    c .ended2 .ensures (g .rows .now) (g .journal .now)
-    ∙ treat-no-row (g .rows .now) (g .journal .now) (g .left) (g .level) (g .s) (g .e) (c₁₄ .same .ensures) (c₁₃ .if1 .left) (omega (arith, c₁₂ .if2 .left))
-    (c₁₁ .side .ensures) (c₁₀ .bottom .ensures) (c₈ .find .ensures) (c₆ .enum-told .given .1) (c₄ .lowest-free .ensures) (omega (arith, c₁ .if3 .taken, c₂ .rows-in .ensures))
+    c .ended2 .ensures _ _
+    ∙ treat-no-row (searched t (c₆ .before .before)) (c₆ .enum-told .given .1) (c₄ .lowest-free .ensures) (omega (arith, c₁ .if3 .taken, c₂ .rows-in .ensures))
 
 treat-open-lowest-requires : (t : ℕ) → treat-lts.Need-open-lowest-requires (treat-calls t) (treat-at t) treat.Post
 treat-open-lowest-requires t c κs =
@@ -457,15 +317,6 @@ treat-open-lowest-requires t c κs =
     let g = c₁₆ .args in
     (omega (arith, c₁ .if3 .left, c₂ .rows-in .ensures), omega (arith, c₁₆ .pre .1 .0), lowest-is (g .rows .now) (g .s) (c₄ .lowest-free .ensures))
 
-treat-on-row-requires : (t : ℕ) → treat-lts.Need-on-row-requires (treat-calls t) (treat-at t) treat.Post
-treat-on-row-requires t c κs = search needs
-
-treat-same-length-3 : (t : ℕ) → treat-lts.Need-same-length-3 (treat-calls t) (treat-at t) treat.Post
-treat-same-length-3 t c = search needs
-
-treat-same-length-4 : (t : ℕ) → treat-lts.Need-same-length-4 (treat-calls t) (treat-at t) treat.Post
-treat-same-length-4 t c = search needs
-
 treat-returns-4 : (t : ℕ) → treat-lts.Need-returns-4 (treat-calls t) (treat-at t) treat.Post
 treat-returns-4 t c =
     let c₂ = c .before .before in
@@ -474,17 +325,8 @@ treat-returns-4 t c =
     let c₉ = c₈ .before in
     let c₁₁ = c₉ .before .before in
     let c₁₃ = c₁₁ .before .before in
-    let c₁₅ = c₁₃ .before .before in
-    let c₁₇ = c₁₅ .before .before in
-    let c₁₈ = c₁₇ .before in
-    let c₁₉ = c₁₈ .before in
-    let c₂₀ = c₁₉ .before in
-    let c₂₁ = c₂₀ .before in
-    let c₂₃ = c₂₁ .before .before in
-    let g = c₂₃ .args in
-    treat-opened (g .rows .now) (g .journal .now) (g .left) (g .level) (g .s) (g .e) (c₂₁ .same .ensures) (c₂₀ .if1 .left) (omega (arith, c₁₉ .if2 .left))
-    (c₁₈ .side .ensures) (c₁₇ .bottom .ensures) (c₁₅ .find .ensures) (c₁₃ .enum-told .given .1) (c₁₁ .lowest-free .ensures) (omega (arith, c₈ .if3 .left, c₉ .rows-in .ensures))
-    (c₆ .open-lowest .ensures (g .journal .now)) (c₆ .open-lowest .kept .0) (c₂ .on-row .ensures)
+    treat-opened (searched t (c₁₃ .before .before)) (c₁₃ .enum-told .given .1) (c₁₁ .lowest-free .ensures) (omega (arith, c₈ .if3 .left, c₉ .rows-in .ensures))
+    (c₆ .open-lowest .ensures _) (c₆ .open-lowest .kept .0) (c₂ .on-row .ensures)
 
 treat-on-row-requires-2 : (t : ℕ) → treat-lts.Need-on-row-requires-2 (treat-calls t) (treat-at t) treat.Post
 treat-on-row-requires-2 t c κs =
@@ -495,105 +337,37 @@ treat-on-row-requires-2 t c κs =
     let pre = c₁₃ .pre in
     (omega (arith, pre .0), (found-there _ _ _ _ _ _ (sym (c₅ .find .ensures) ∙ c₃ .r .given .1), omega (arith, pre .1 .0), omega (arith, c₉ .if2 .left)))
 
-treat-same-length-5 : (t : ℕ) → treat-lts.Need-same-length-5 (treat-calls t) (treat-at t) treat.Post
-treat-same-length-5 t c = search needs
-
-treat-same-length-6 : (t : ℕ) → treat-lts.Need-same-length-6 (treat-calls t) (treat-at t) treat.Post
-treat-same-length-6 t c = search needs
-
 treat-returns-5 : (t : ℕ) → treat-lts.Need-returns-5 (treat-calls t) (treat-at t) treat.Post
 treat-returns-5 t c =
     let c₂ = c .before .before in
     let c₆ = c₂ .before .before .before .before in
-    let c₈ = c₆ .before .before in
-    let c₁₀ = c₈ .before .before in
-    let c₁₁ = c₁₀ .before in
-    let c₁₂ = c₁₁ .before in
-    let c₁₃ = c₁₂ .before in
-    let c₁₄ = c₁₃ .before in
-    let c₁₆ = c₁₄ .before .before in
-    let g = c₁₆ .args in
-    treat-found (g .rows .now) (g .journal .now) (g .left) (g .level) (g .s) (g .e) (c₁₄ .same .ensures) (c₁₃ .if1 .left) (omega (arith, c₁₂ .if2 .left))
-    (c₁₁ .side .ensures) (c₁₀ .bottom .ensures) (c₈ .find .ensures) (c₆ .r .given .1) (c₂ .on-row2 .ensures)
+    treat-found (searched t (c₆ .before .before)) (c₆ .r .given .1) (c₂ .on-row2 .ensures)
 
 pub +on-row+pass-both+pass-up+treat-spec : {M : Type 1} → statement M
 +on-row+pass-both+pass-up+treat-spec =
     close μ-on-row μ-pass-both μ-pass-up μ-treat (λ t. on-row-lts.spec (on-row-calls t) (on-row-at t)
     on-row.Post
-    (on-row-attach-requires t)
-    (on-row-is-done-requires t)
-    (on-row-same-length t)
-    (on-row-same-length-2 t)
-    (on-row-returns t)
-    (on-row-other-requires t)
-    (on-row-bottom-requires t)
-    (on-row-find-requires t)
-    (on-row-enum-known-q t)
-    (on-row-enum-told t)
-    (on-row-same-length-3 t)
-    (on-row-same-length-4 t)
-    (on-row-returns-2 t)
+    (search needs) (search needs) (search needs) (search needs) (on-row-returns t)
+    (search needs) (search needs) (search needs) (search needs) (search needs) (search needs) (search needs) (on-row-returns-2 t)
     (on-row-finish-requires t)
-    (on-row-finish-requires-2 t)
-    (on-row-pass-both-requires t)
-    (on-row-same-length-5 t)
-    (on-row-same-length-6 t)
-    (on-row-returns-3 t))
+    (search needs) (on-row-pass-both-requires t)
+    (search needs) (search needs) (on-row-returns-3 t))
     (λ t. pass-both-lts.spec (pass-both-calls t) (pass-both-at t)
     pass-both.Post
-    (pass-both-pass-up-requires t)
-    (pass-both-same-length t)
-    (pass-both-same-length-2 t)
-    (pass-both-returns t)
-    (pass-both-is-done-requires t)
-    (pass-both-same-length-3 t)
-    (pass-both-same-length-4 t)
-    (pass-both-returns-2 t)
-    (pass-both-pass-up-requires-2 t)
-    (pass-both-same-length-5 t)
-    (pass-both-same-length-6 t)
-    (pass-both-returns-3 t))
+    (search needs) (search needs) (search needs) (pass-both-returns t)
+    (search needs) (search needs) (search needs) (pass-both-returns-2 t)
+    (search needs) (search needs) (search needs) (pass-both-returns-3 t))
     (λ t. pass-up-lts.spec (pass-up-calls t) (pass-up-at t)
     pass-up.Post
-    (pass-up-both-finished-requires t)
-    (pass-up-same-length t)
-    (pass-up-returns t)
-    (pass-up-as-edge-requires t)
-    (pass-up-add-treat t)
-    (pass-up-sub-treat t)
-    (pass-up-treat-requires t)
-    (pass-up-is-done-requires t)
-    (pass-up-same-length-2 t)
-    (pass-up-same-length-3 t)
-    (pass-up-returns-2 t)
-    (pass-up-free-row-requires t)
-    (pass-up-same-length-4 t)
-    (pass-up-same-length-5 t)
-    (pass-up-returns-3 t))
+    (search needs) (search needs) (pass-up-returns t)
+    (search needs) (search needs) (search needs) (search needs) (search needs) (search needs) (search needs) (pass-up-returns-2 t)
+    (search needs) (search needs) (search needs) (pass-up-returns-3 t))
     λ t. treat-lts.spec (treat-calls t) (treat-at t)
     treat.Post
-    (treat-same-requires t)
-    (treat-close-requires t)
-    (treat-same-length t)
-    (treat-returns t)
-    (treat-ended-requires t)
-    (treat-returns-2 t)
-    (treat-side-requires t)
-    (treat-bottom-requires t)
-    (treat-find-requires t)
-    (treat-enum-known-r t)
-    (treat-enum-told t)
-    (treat-lowest-free-requires t)
-    (treat-rows-in-requires t)
-    (treat-ended-requires-2 t)
-    (treat-same-length-2 t)
-    (treat-returns-3 t)
+    (search needs) (search needs) (search needs) (treat-returns t)
+    (search needs) (treat-returns-2 t)
+    (search needs) (search needs) (search needs) (search needs) (search needs) (search needs) (search needs) (search needs) (search needs) (treat-returns-3 t)
     (treat-open-lowest-requires t)
-    (treat-on-row-requires t)
-    (treat-same-length-3 t)
-    (treat-same-length-4 t)
-    (treat-returns-4 t)
+    (search needs) (search needs) (search needs) (treat-returns-4 t)
     (treat-on-row-requires-2 t)
-    (treat-same-length-5 t)
-    (treat-same-length-6 t)
-    (treat-returns-5 t)
+    (search needs) (search needs) (treat-returns-5 t)

@@ -4,18 +4,6 @@ use Rattle.steps.specs.SweepUp.{asEdge}
 use Rattle.sweep.proofs.treating.as_edge.Statement.{statement}
 use Rattle.sweep.proofs.treating.as_edge.Tie as tie
 
-tip-of-requires : tie.Need-tip-of-requires
-tip-of-requires c κs = search needs
-
-tip-of-requires-2 : tie.Need-tip-of-requires-2
-tip-of-requires-2 c κs = search needs
-
-length-of-requires : tie.Need-length-of-requires
-length-of-requires c κs = search needs
-
-length-of-requires-2 : tie.Need-length-of-requires-2
-length-of-requires-2 c κs = search needs
-
 returns : tie.Need-returns
 unfolding asEdge
 returns c =
@@ -27,4 +15,4 @@ returns c =
 pub as-edge-spec : {M : Type 1} → statement M
 as-edge-spec =
     tie.close
-    (tie.spec tip-of-requires tip-of-requires-2 length-of-requires length-of-requires-2 returns)
+    (tie.spec (search needs) (search needs) (search needs) (search needs) returns)

@@ -11,47 +11,11 @@ use Rattle.sweep.proofs.Attaching.{attach-full, attach-long, attach-don
 use Rattle.sweep.proofs.treating.attach.Statement.{statement}
 use Rattle.sweep.proofs.treating.attach.Tie as tie
 
-records-in-requires : tie.Need-records-in-requires
-records-in-requires c κs = search needs
-
-ended-requires : tie.Need-ended-requires
-ended-requires c κs = search needs
-
-same-length : tie.Need-same-length
-same-length c = search needs
-
 returns : tie.Need-returns
 returns c =
     let c₄ = c .before .before .before .before in
     let g = c₄ .args in
     c .ended .ensures (g .rows .now) (g .journal .now) ∙ attach-full (g .rows .now) (g .journal .now) (g .s) (g .level) (g .e) (g .side) (g .r) (omega arith)
-
-length-of-requires : tie.Need-length-of-requires
-length-of-requires c κs = search needs
-
-cast-longer : tie.Need-cast-longer
-cast-longer c = search needs
-
-cast-longer-2 : tie.Need-cast-longer-2
-cast-longer-2 c = search needs
-
-add-longer : tie.Need-add-longer
-add-longer c = search needs
-
-cast-longer-3 : tie.Need-cast-longer-3
-cast-longer-3 c = search needs
-
-add-longer-2 : tie.Need-add-longer-2
-add-longer-2 c = search needs
-
-ended-requires-2 : tie.Need-ended-requires-2
-ended-requires-2 c κs = search needs
-
-same-length-2 : tie.Need-same-length-2
-same-length-2 c = search needs
-
-same-length-3 : tie.Need-same-length-3
-same-length-3 c = search needs
 
 returns-2 : tie.Need-returns-2
 returns-2 c =
@@ -61,42 +25,6 @@ returns-2 c =
     let g = c₉ .args in
     let n = c₄ .length-of in
     c .ended2 .ensures (g .rows .now) (g .journal .now) ∙ attach-long (g .rows .now) (g .journal .now) (g .s) (g .level) (g .e) (g .side) (g .r) (n .result) (n .ensures .0) (c₁ .if2 .taken)
-
-other-requires : tie.Need-other-requires
-other-requires c κs = search needs
-
-length-requires : tie.Need-length-requires
-length-requires c κs = search needs
-
-add-signed : tie.Need-add-signed
-add-signed c = search needs
-
-signed-requires : tie.Need-signed-requires
-signed-requires c κs = search needs
-
-write-attached-requires : tie.Need-write-attached-requires
-write-attached-requires c κs = search needs
-
-other-requires-2 : tie.Need-other-requires-2
-other-requires-2 c κs = search needs
-
-bottom-requires : tie.Need-bottom-requires
-bottom-requires c κs = search needs
-
-cast-move-tip : tie.Need-cast-move-tip
-cast-move-tip c = search needs
-
-move-tip-requires : tie.Need-move-tip-requires
-move-tip-requires c κs = search needs
-
-recorded-requires : tie.Need-recorded-requires
-recorded-requires c κs = search needs
-
-same-length-4 : tie.Need-same-length-4
-same-length-4 c = search needs
-
-same-length-5 : tie.Need-same-length-5
-same-length-5 c = search needs
 
 returns-3 : tie.Need-returns-3
 returns-3 c =
@@ -125,30 +53,6 @@ pub attach-spec : {M : Type 1} → statement M
 attach-spec =
     tie.close
     (tie.spec
-    records-in-requires
-    ended-requires
-    same-length
-    returns
-    length-of-requires
-    cast-longer
-    cast-longer-2
-    add-longer
-    cast-longer-3
-    add-longer-2
-    ended-requires-2
-    same-length-2
-    same-length-3
-    returns-2
-    other-requires
-    length-requires
-    add-signed
-    signed-requires
-    write-attached-requires
-    other-requires-2
-    bottom-requires
-    cast-move-tip
-    move-tip-requires
-    recorded-requires
-    same-length-4
-    same-length-5
-    returns-3)
+    (search needs) (search needs) (search needs) returns
+    (search needs) (search needs) (search needs) (search needs) (search needs) (search needs) (search needs) (search needs) (search needs) returns-2
+    (search needs) (search needs) (search needs) (search needs) (search needs) (search needs) (search needs) (search needs) (search needs) (search needs) (search needs) (search needs) returns-3)

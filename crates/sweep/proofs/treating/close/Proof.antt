@@ -8,32 +8,11 @@ use Rattle.sweep.proofs.Attaching.{close-full, close-written}
 use Rattle.sweep.proofs.treating.close.Statement.{statement}
 use Rattle.sweep.proofs.treating.close.Tie as tie
 
-records-in-requires : tie.Need-records-in-requires
-records-in-requires c κs = search needs
-
-ended-requires : tie.Need-ended-requires
-ended-requires c κs = search needs
-
-same-length : tie.Need-same-length
-same-length c = search needs
-
 returns : tie.Need-returns
 returns c =
     let c₄ = c .before .before .before .before in
     let g = c₄ .args in
     λ a. c .ended .ensures a (g .journal .now) ∙ close-full a (g .journal .now) (g .s) (g .level) (g .e) (omega arith)
-
-cast-write-closing : tie.Need-cast-write-closing
-cast-write-closing c = search needs
-
-write-closing-requires : tie.Need-write-closing-requires
-write-closing-requires c κs = search needs
-
-recorded-requires : tie.Need-recorded-requires
-recorded-requires c κs = search needs
-
-same-length-2 : tie.Need-same-length-2
-same-length-2 c = search needs
 
 returns-2 : tie.Need-returns-2
 returns-2 c =
@@ -47,12 +26,5 @@ pub close-spec : {M : Type 1} → statement M
 close-spec =
     tie.close
     (tie.spec
-    records-in-requires
-    ended-requires
-    same-length
-    returns
-    cast-write-closing
-    write-closing-requires
-    recorded-requires
-    same-length-2
-    returns-2)
+    (search needs) (search needs) (search needs) returns
+    (search needs) (search needs) (search needs) (search needs) returns-2)

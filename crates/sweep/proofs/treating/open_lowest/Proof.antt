@@ -4,18 +4,6 @@ use Rattle.sweep.proofs.Attaching.{opened}
 use Rattle.sweep.proofs.treating.open_lowest.Statement.{statement}
 use Rattle.sweep.proofs.treating.open_lowest.Tie as tie
 
-open-row-requires : tie.Need-open-row-requires
-open-row-requires c κs = search needs
-
-add-in-use : tie.Need-add-in-use
-add-in-use c = search needs
-
-in-use-requires : tie.Need-in-use-requires
-in-use-requires c κs = search needs
-
-same-length : tie.Need-same-length
-same-length c = search needs
-
 returns : tie.Need-returns
 returns c =
     let c₂ = c .before .before in
@@ -25,4 +13,4 @@ returns c =
 
 pub open-lowest-spec : {M : Type 1} → statement M
 open-lowest-spec =
-    tie.close (tie.spec open-row-requires add-in-use in-use-requires same-length returns)
+    tie.close (tie.spec (search needs) (search needs) (search needs) (search needs) returns)

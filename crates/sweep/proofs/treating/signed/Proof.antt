@@ -4,18 +4,6 @@ use Rattle.sweep.proofs.Attaching.{plus, minus-fits, minus}
 use Rattle.sweep.proofs.treating.signed.Statement.{statement}
 use Rattle.sweep.proofs.treating.signed.Tie as tie
 
-enum-told : tie.Need-enum-told
-enum-told c = search needs
-
-cast-result : tie.Need-cast-result
-cast-result c = search needs
-
-enum-told-2 : tie.Need-enum-told-2
-enum-told-2 c = search needs
-
-cast-result-2 : tie.Need-cast-result-2
-cast-result-2 c = search needs
-
 sub-result : tie.Need-sub-result
 sub-result c = minus-fits (c .before .before .args .n) (c .before .before .pre)
 
@@ -28,4 +16,4 @@ returns-2 c = rw (c .enum-told2 .given .1) (minus (c .before .before .args .n) (
 pub signed-spec : {M : Type 1} → statement M
 signed-spec =
     tie.close
-    (tie.spec enum-told cast-result enum-told-2 cast-result-2 sub-result returns returns-2)
+    (tie.spec (search needs) (search needs) (search needs) (search needs) sub-result returns returns-2)

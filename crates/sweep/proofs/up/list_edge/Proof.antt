@@ -4,11 +4,8 @@ use mathlib.Core.Path.{refl}
 use Rattle.sweep.proofs.up.list_edge.Statement.{statement}
 use Rattle.sweep.proofs.up.list_edge.Tie as tie
 
-at-requires : tie.Need-at-requires
-at-requires c κs = search needs
-
 returns : tie.Need-returns
 returns c = rw (c .before .before .at .ensures) (refl, refl)
 
 pub list-edge-spec : {M : Type 1} → statement M
-list-edge-spec = tie.close (tie.spec at-requires returns)
+list-edge-spec = tie.close (tie.spec (search needs) returns)

@@ -28,68 +28,42 @@ loop-holds : tie.Need-loop-holds Inv-loop μ-loop
 unfolding sweepUp
 loop-holds c = (search needs, search needs, search needs, refl, refl)
 
-list-edge-requires : tie.Need-list-edge-requires Inv-loop μ-loop
-list-edge-requires c κs = search needs
-
-treat-requires : tie.Need-treat-requires Inv-loop μ-loop
-treat-requires c κs = search needs
-
-is-done-requires : tie.Need-is-done-requires Inv-loop μ-loop
-is-done-requires c κs = search needs
-
-same-length : tie.Need-same-length Inv-loop μ-loop
-same-length c = search needs
-
-same-length-2 : tie.Need-same-length-2 Inv-loop μ-loop
-same-length-2 c = search needs
+-- the edge treated is the sweep's next step
+treated : (c : tie.After-treat Inv-loop μ-loop) →
+    let t = c .treat in
+    let c₅ = c .before .before .before .before .before in
+    let g = c₅ .before .args in
+    swept (t .last .0) (t .last .1 .0) (record { progress = t .result; edge = c₅ .loop .i })
+    ≡ sweepUp (roomOf (g .rows .now) (g .journal .now)) (edgesOf (g .edges .now)) (start (g .rows .now) (g .journal .now)) (c₅ .loop .i + 1)
+treated c =
+    let c₁ = c .before in
+    let c₅ = c₁ .before .before .before .before in
+    let g = c₅ .before .args in
+    let l = c₅ .loop in
+    next-edge (g .rows .now) (g .journal .now) (edgesOf (g .edges .now)) (l .i) {w = record { progress = l .s; edge = l .edge }} (l .inv .3) (l .inv .4) (l .inv .1) (l .inv .2)
+    (c₁ .list-edge .ensures .0) {p = c .treat .result} (c .treat .ensures)
 
 returns : tie.Need-returns Inv-loop μ-loop
 returns c =
     let c₁ = c .before in
     let c₄ = c₁ .before .before .before in
-    let c₅ = c₄ .before in
-    let c₈ = c₅ .before .before .before in
-    let c₉ = c₈ .before in
-    let c₁₀ = c₉ .before in
-    let g = c₁₀ .args in
-    let l = c₉ .loop in
-    let t = c₄ .treat in
-    let next =
-    next-edge (g .rows .now) (g .journal .now) (edgesOf (g .edges .now)) (l .i) {w = record { progress = l .s; edge = l .edge }} (l .inv .3) (l .inv .4) (l .inv .1) (l .inv .2)
-    (c₅ .list-edge .ensures .0) {p = t .result} (t .ensures) in
-    let w : Swept = record { progress = t .result; edge = l .i } in
+    let c₈ = c₄ .before .before .before .before in
+    let l = c₈ .before .loop in
+    let g = c₈ .before .before .args in
+    let w : Swept = record { progress = c₄ .treat .result; edge = l .i } in
     let e =
-    sweep-stays (g .rows .now) (g .journal .now) (edgesOf (g .edges .now)) (g .n) (l .i + 1) {w = w} (omega (arith, c₈ .loop-test .taken)) next
+    sweep-stays (g .rows .now) (g .journal .now) (edgesOf (g .edges .now)) (g .n) (l .i + 1) {w = w} (omega (arith, c₈ .loop-test .taken)) (treated c₄)
     (sym (c₁ .is-done .ensures) ∙ not-true _ (c .if1 .taken)) in
     (e, records-there (g .rows .now) (g .journal .now) (edgesOf (g .edges .now)) (g .n) w e)
-
-add-i : tie.Need-add-i Inv-loop μ-loop
-add-i c = search needs
-
-loop-less : tie.Need-loop-less Inv-loop μ-loop
-loop-less c = search needs
 
 loop-again : tie.Need-loop-again Inv-loop μ-loop
 loop-again c =
     let c₁ = c .before in
     let c₄ = c₁ .before .before .before in
-    let c₅ = c₄ .before in
-    let c₈ = c₅ .before .before .before in
-    let c₉ = c₈ .before in
-    let c₁₀ = c₉ .before in
-    let g = c₁₀ .args in
-    let l = c₉ .loop in
-    let t = c₄ .treat in
-    let next =
-    next-edge (g .rows .now) (g .journal .now) (edgesOf (g .edges .now)) (l .i) {w = record { progress = l .s; edge = l .edge }} (l .inv .3) (l .inv .4) (l .inv .1) (l .inv .2)
-    (c₅ .list-edge .ensures .0) {p = t .result} (t .ensures) in
-    (omega (arith, c₈ .loop-test .taken), omega (arith, l .inv .1, t .kept), omega (arith, l .inv .2, t .kept), next, sym (c₁ .is-done .ensures) ∙ not-false _ (c .if1 .left))
-
-same-length-3 : tie.Need-same-length-3 Inv-loop μ-loop
-same-length-3 c = search needs
-
-same-length-4 : tie.Need-same-length-4 Inv-loop μ-loop
-same-length-4 c = search needs
+    let c₈ = c₄ .before .before .before .before in
+    let v = c₈ .before .loop .inv in
+    let k = c₄ .treat .kept in
+    (omega (arith, c₈ .loop-test .taken), omega (arith, v .1, k), omega (arith, v .2, k), treated c₄, sym (c₁ .is-done .ensures) ∙ not-false _ (c .if1 .left))
 
 returns-2 : tie.Need-returns-2 Inv-loop μ-loop
 returns-2 c =
@@ -109,15 +83,6 @@ sweep-up-spec =
     Inv-loop
     μ-loop
     loop-holds
-    list-edge-requires
-    treat-requires
-    is-done-requires
-    same-length
-    same-length-2
-    returns
-    add-i
-    loop-less
-    loop-again
-    same-length-3
-    same-length-4
-    returns-2)
+    (search needs) (search needs) (search needs) (search needs) (search needs) returns
+    (search needs) (search needs) loop-again
+    (search needs) (search needs) returns-2)
