@@ -4,24 +4,6 @@ use borrow.Author.Needs.{needs}
 use Rattle.desk.proofs.outline_number.Statement.{statement}
 use Rattle.desk.proofs.outline_number.Tie as tie
 
-number-requires : tie.Need-number-requires
-number-requires c κs = search needs
-
-sheet-of-requires : tie.Need-sheet-of-requires
-sheet-of-requires c κs = search needs
-
-same-length : tie.Need-same-length
-same-length c = search needs
-
-same-length-2 : tie.Need-same-length-2
-same-length-2 c = search needs
-
-same-length-3 : tie.Need-same-length-3
-same-length-3 c = search needs
-
-same-length-4 : tie.Need-same-length-4
-same-length-4 c = search needs
-
 returns : tie.Need-returns
 returns c =
     let n = c .before .before .before .before .before .before .before .number in
@@ -34,11 +16,4 @@ returns c =
 pub outline-number-spec : {M : Type 1} → statement M
 outline-number-spec =
     tie.close
-    (tie.spec
-    number-requires
-    sheet-of-requires
-    same-length
-    same-length-2
-    same-length-3
-    same-length-4
-    returns)
+    (tie.spec (search needs) (search needs) (search needs) (search needs) (search needs) (search needs) returns)

@@ -7,15 +7,6 @@ use borrow.Author.Needs.{needs}
 use Rattle.desk.proofs.outline_turns.Statement.{statement}
 use Rattle.desk.proofs.outline_turns.Tie as tie
 
-turn-list-requires : tie.Need-turn-list-requires
-turn-list-requires c κs = search needs
-
-turned-of-requires : tie.Need-turned-of-requires
-turned-of-requires c κs = search needs
-
-same-length : tie.Need-same-length
-same-length c = search needs
-
 returns : tie.Need-returns
 returns c =
     let a = c .before .before .before .before .before .before .before .before .args in
@@ -23,4 +14,4 @@ returns c =
     record { answer = c .turned-of .ensures ∙ ap turnedFrom (e .0); turns = subst (λ x. TurnsAfter (now (a .polygons)) (now (a .sequences)) x (now (a .turns)) (c .before .before .before .turn-list .last .1 .1 .0)) (e .0) (e .1) }
 
 pub outline-turns-spec : {M : Type 1} → statement M
-outline-turns-spec = tie.close (tie.spec turn-list-requires turned-of-requires same-length returns)
+outline-turns-spec = tie.close (tie.spec (search needs) (search needs) (search needs) returns)

@@ -5,18 +5,6 @@ use borrow.Author.Needs.{needs}
 use Rattle.desk.proofs.sheet_of.Statement.{statement}
 use Rattle.desk.proofs.sheet_of.Tie as tie
 
-enum-known-answer : tie.Need-enum-known-answer
-enum-known-answer c = search needs
-
-enum-known-answer-2 : tie.Need-enum-known-answer-2
-enum-known-answer-2 c = search needs
-
-number-requires : tie.Need-number-requires
-number-requires c κs = search needs
-
-place-requires : tie.Need-place-requires
-place-requires c κs = search needs
-
 returns : tie.Need-returns
 returns c = ap sheetFrom (sym (c .before .answer .given .1))
 
@@ -28,10 +16,4 @@ returns-2 c =
 pub sheet-of-spec : {M : Type 1} → statement M
 sheet-of-spec =
     tie.close
-    (tie.spec
-    enum-known-answer
-    enum-known-answer-2
-    number-requires
-    place-requires
-    returns
-    returns-2)
+    (tie.spec (search needs) (search needs) (search needs) (search needs) returns returns-2)

@@ -8,9 +8,6 @@ use borrow.Author.Needs.{needs}
 use Rattle.journal.proofs.fit.Statement.{statement}
 use Rattle.journal.proofs.fit.Tie as tie
 
-cast-result : tie.Need-cast-result
-cast-result c = search needs
-
 returns : tie.Need-returns
 returns c =
     let n = c .before .args .n in
@@ -23,4 +20,4 @@ returns-2 c =
     ap pos e
 
 pub fit-spec : {M : Type 1} → statement M
-fit-spec = tie.close (tie.spec cast-result returns returns-2)
+fit-spec = tie.close (tie.spec (search needs) returns returns-2)

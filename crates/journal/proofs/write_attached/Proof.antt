@@ -6,21 +6,6 @@ use borrow.Author.Needs.{needs}
 use Rattle.journal.proofs.write_attached.Statement.{statement}
 use Rattle.journal.proofs.write_attached.Tie as tie
 
-fit-requires : tie.Need-fit-requires
-fit-requires c κs = search needs
-
-fit-requires-2 : tie.Need-fit-requires-2
-fit-requires-2 c κs = search needs
-
-fit-requires-3 : tie.Need-fit-requires-3
-fit-requires-3 c κs = search needs
-
-write-requires : tie.Need-write-requires
-write-requires c κs = search needs
-
-same-length : tie.Need-same-length
-same-length c = search needs
-
 returns : tie.Need-returns
 unfolding writtenIn rowNumber
 returns c =
@@ -36,4 +21,4 @@ returns c =
 pub write-attached-spec : {M : Type 1} → statement M
 write-attached-spec =
     tie.close
-    (tie.spec fit-requires fit-requires-2 fit-requires-3 write-requires same-length returns)
+    (tie.spec (search needs) (search needs) (search needs) (search needs) (search needs) returns)

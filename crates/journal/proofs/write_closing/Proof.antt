@@ -6,18 +6,6 @@ use borrow.Author.Needs.{needs}
 use Rattle.journal.proofs.write_closing.Statement.{statement}
 use Rattle.journal.proofs.write_closing.Tie as tie
 
-fit-requires : tie.Need-fit-requires
-fit-requires c κs = search needs
-
-fit-requires-2 : tie.Need-fit-requires-2
-fit-requires-2 c κs = search needs
-
-write-requires : tie.Need-write-requires
-write-requires c κs = search needs
-
-same-length : tie.Need-same-length
-same-length c = search needs
-
 returns : tie.Need-returns
 unfolding writtenIn rowNumber
 returns c =
@@ -31,4 +19,4 @@ returns c =
 
 pub write-closing-spec : {M : Type 1} → statement M
 write-closing-spec =
-    tie.close (tie.spec fit-requires fit-requires-2 write-requires same-length returns)
+    tie.close (tie.spec (search needs) (search needs) (search needs) (search needs) returns)

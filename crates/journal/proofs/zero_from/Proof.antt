@@ -13,29 +13,14 @@ Inv-loop journal₀ k i₀ journal i = Zeroed journal₀ (4 * k) journal i
 abbrev μ-loop : tie.MeasureT-loop
 μ-loop journal₀ k i₀ journal i = length journal - i
 
-mul-i : tie.Need-mul-i Inv-loop μ-loop
-mul-i c = search needs
-
 loop-holds : tie.Need-loop-holds Inv-loop μ-loop
 loop-holds c = zeroed-none (search needs)
-
-mul-journal : tie.Need-mul-journal Inv-loop μ-loop
-mul-journal c = search needs
-
-slice-set-of-journal : tie.Need-slice-set-of-journal Inv-loop μ-loop
-slice-set-of-journal c = search needs
-
-add-i : tie.Need-add-i Inv-loop μ-loop
-add-i c = search needs
 
 loop-less : tie.Need-loop-less Inv-loop μ-loop
 loop-less c = simp length-set (omega arith)
 
 loop-again : tie.Need-loop-again Inv-loop μ-loop
 loop-again c = zeroed-more (c .before .loop .inv) (c .loop-test .taken)
-
-same-length : tie.Need-same-length Inv-loop μ-loop
-same-length c = search needs
 
 returns : tie.Need-returns Inv-loop μ-loop
 returns c = zeroed-all (c .before .loop .inv) (c .loop-test .left)
@@ -46,12 +31,7 @@ zero-from-spec =
     (tie.spec
     Inv-loop
     μ-loop
-    mul-i
-    loop-holds
-    mul-journal
-    slice-set-of-journal
-    add-i
-    loop-less
+    (search needs) loop-holds
+    (search needs) (search needs) (search needs) loop-less
     loop-again
-    same-length
-    returns)
+    (search needs) returns)

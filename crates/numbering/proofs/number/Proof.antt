@@ -10,15 +10,6 @@ use borrow.Author.Needs.{needs}
 use Rattle.numbering.proofs.number.Statement.{statement}
 use Rattle.numbering.proofs.number.Tie as tie
 
-check-requires : tie.Need-check-requires
-check-requires c κs = search needs
-
-enum-known-checked : tie.Need-enum-known-checked
-enum-known-checked c = search needs
-
-enum-told : tie.Need-enum-told
-enum-told c = search needs
-
 number-checked-requires : tie.Need-number-checked-requires
 unfolding edgesIn
 number-checked-requires c κs =
@@ -32,18 +23,6 @@ returns c =
     let l = lent (now (a .edges)) (now (a .polygons)) (now (a .sequences)) (now (a .journal)) (now (a .rows)) in
     promised l _ (when-refused l _ (sym (c .before .before .before .check .ensures) ∙ c .before .checked .given .1))
 
-same-length : tie.Need-same-length
-same-length c = search needs
-
-same-length-2 : tie.Need-same-length-2
-same-length-2 c = search needs
-
-same-length-3 : tie.Need-same-length-3
-same-length-3 c = search needs
-
-same-length-4 : tie.Need-same-length-4
-same-length-4 c = search needs
-
 returns-2 : tie.Need-returns-2
 unfolding outcome
 returns-2 c =
@@ -55,13 +34,6 @@ pub number-spec : {M : Type 1} → statement M
 number-spec =
     tie.close
     (tie.spec
-    check-requires
-    enum-known-checked
-    enum-told
-    number-checked-requires
+    (search needs) (search needs) (search needs) number-checked-requires
     returns
-    same-length
-    same-length-2
-    same-length-3
-    same-length-4
-    returns-2)
+    (search needs) (search needs) (search needs) (search needs) returns-2)

@@ -11,42 +11,15 @@ use borrow.Author.Needs.{needs}
 use Rattle.numbering.proofs.sweep_both.Statement.{statement}
 use Rattle.numbering.proofs.sweep_both.Tie as tie
 
-sweep-up-requires : tie.Need-sweep-up-requires
-sweep-up-requires c κs = search needs
-
-is-done-requires : tie.Need-is-done-requires
-is-done-requires c κs = search needs
-
-zero-from-requires : tie.Need-zero-from-requires
-zero-from-requires c κs = search needs
-
-clear-requires : tie.Need-clear-requires
-clear-requires c κs = search needs
-
 cast-t25 : tie.Need-cast-t25
 unfolding sweptUp edgesIn
 cast-t25 c =
     record { fits = omega (arith, ap (λ w. w .edge) (c .before .before .before .before .before .before .before .before .before .before .before .sweep-up .ensures .0), leaving.edge-fits (lent (now (c .before .before .before .before .before .before .before .before .before .before .before .before .before .before .before .before .args .edges)) (now (c .before .before .before .before .before .before .before .before .before .before .before .before .before .before .before .before .args .polygons)) (now (c .before .before .before .before .before .before .before .before .before .before .before .before .before .before .before .before .args .sequences)) (now (c .before .before .before .before .before .before .before .before .before .before .before .before .before .before .before .before .args .journal)) (now (c .before .before .before .before .before .before .before .before .before .before .before .before .before .before .before .before .args .rows))) (c .before .before .before .before .before .before .before .before .before .before .before .before .before .before .before .before .pre .0) (c .before .before .before .before .before .before .before .before .before .before .before .before .before .before .before .before .pre .1)) }
 
-same-length : tie.Need-same-length
-same-length c = search needs
-
-same-length-2 : tie.Need-same-length-2
-same-length-2 c = search needs
-
 returns : tie.Need-returns
 unfolding sweptUp edgesIn
 returns c =
     leaving.when-stopped (lent (now (c .before .before .before .before .before .before .before .before .before .before .before .before .before .before .before .before .args .edges)) (now (c .before .before .before .before .before .before .before .before .before .before .before .before .before .before .before .before .args .polygons)) (now (c .before .before .before .before .before .before .before .before .before .before .before .before .before .before .before .before .args .sequences)) (now (c .before .before .before .before .before .before .before .before .before .before .before .before .before .before .before .before .args .journal)) (now (c .before .before .before .before .before .before .before .before .before .before .before .before .before .before .before .before .args .rows))) (c .before .before .before .before .before .before .before .before .before .before .before .sweep-up .ensures .0) (search needs) (sym (c .before .before .before .before .before .before .before .is-done .ensures) ∙ not-true _ (c .before .before .before .before .before .before .if1 .taken)) (search needs) (c .before .before .before .before .zero-from .ensures) (c .before .clear .ensures)
-
-sweep-down-requires : tie.Need-sweep-down-requires
-sweep-down-requires c κs = search needs
-
-zero-from-requires-2 : tie.Need-zero-from-requires-2
-zero-from-requires-2 c κs = search needs
-
-clear-requires-2 : tie.Need-clear-requires-2
-clear-requires-2 c κs = search needs
 
 cast-t40 : tie.Need-cast-t40
 unfolding sweptUp edgesIn
@@ -60,21 +33,6 @@ cast-t41 c =
     let d = is-done-end _ (sym (c .before .before .before .before .before .before .before .before .before .before .before .before .before .before .before .before .before .is-done .ensures) ∙ not-false _ (c .before .before .before .before .before .before .before .before .before .before .before .before .before .before .before .before .if1 .left)) in
     record { fits = omega (arith, ap (λ w. w .state .peak) e, leaving.peak-fits (lent (now (c .before .before .before .before .before .before .before .before .before .before .before .before .before .before .before .before .before .before .before .before .before .before .before .before .before .before .args .edges)) (now (c .before .before .before .before .before .before .before .before .before .before .before .before .before .before .before .before .before .before .before .before .before .before .before .before .before .before .args .polygons)) (now (c .before .before .before .before .before .before .before .before .before .before .before .before .before .before .before .before .before .before .before .before .before .before .before .before .before .before .args .sequences)) (now (c .before .before .before .before .before .before .before .before .before .before .before .before .before .before .before .before .before .before .before .before .before .before .before .before .before .before .args .journal)) (now (c .before .before .before .before .before .before .before .before .before .before .before .before .before .before .before .before .before .before .before .before .before .before .before .before .before .before .args .rows))) (c .before .before .before .before .before .before .before .before .before .before .before .before .before .before .before .before .before .before .before .before .before .before .before .before .before .before .pre .0) (c .before .before .before .before .before .before .before .before .before .before .before .before .before .before .before .before .before .before .before .before .before .before .before .before .before .before .pre .1) (sym (ap (λ w. w .state .end) e) ∙ d)) }
 
-cast-t42 : tie.Need-cast-t42
-cast-t42 c = search needs
-
-same-length-3 : tie.Need-same-length-3
-same-length-3 c = search needs
-
-same-length-4 : tie.Need-same-length-4
-same-length-4 c = search needs
-
-same-length-5 : tie.Need-same-length-5
-same-length-5 c = search needs
-
-same-length-6 : tie.Need-same-length-6
-same-length-6 c = search needs
-
 returns-2 : tie.Need-returns-2
 unfolding sweptUp edgesIn
 returns-2 c =
@@ -84,22 +42,8 @@ pub sweep-both-spec : {M : Type 1} → statement M
 sweep-both-spec =
     tie.close
     (tie.spec
-    sweep-up-requires
-    is-done-requires
-    zero-from-requires
-    clear-requires
-    cast-t25
-    same-length
-    same-length-2
-    returns
-    sweep-down-requires
-    zero-from-requires-2
-    clear-requires-2
-    cast-t40
+    (search needs) (search needs) (search needs) (search needs) cast-t25
+    (search needs) (search needs) returns
+    (search needs) (search needs) (search needs) cast-t40
     cast-t41
-    cast-t42
-    same-length-3
-    same-length-4
-    same-length-5
-    same-length-6
-    returns-2)
+    (search needs) (search needs) (search needs) (search needs) (search needs) returns-2)

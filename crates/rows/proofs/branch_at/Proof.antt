@@ -5,24 +5,6 @@ use borrow.Author.Needs.{needs}
 use Rattle.rows.proofs.branch_at.Statement.{statement}
 use Rattle.rows.proofs.branch_at.Tie as tie
 
-enum-told : tie.Need-enum-told
-enum-told c = search needs
-
-mul-result : tie.Need-mul-result
-mul-result c = search needs
-
-add-result : tie.Need-add-result
-add-result c = search needs
-
-enum-told-2 : tie.Need-enum-told-2
-enum-told-2 c = search needs
-
-mul-result-2 : tie.Need-mul-result-2
-mul-result-2 c = search needs
-
-add-result-2 : tie.Need-add-result-2
-add-result-2 c = search needs
-
 returns : tie.Need-returns
 returns c = rw (c .enum-told .given .1) (refl, omega arith)
 
@@ -33,11 +15,5 @@ pub branch-at-spec : {M : Type 1} → statement M
 branch-at-spec =
     tie.close
     (tie.spec
-    enum-told
-    mul-result
-    add-result
-    enum-told-2
-    mul-result-2
-    add-result-2
-    returns
+    (search needs) (search needs) (search needs) (search needs) (search needs) (search needs) returns
     returns-2)

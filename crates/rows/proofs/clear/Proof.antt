@@ -17,23 +17,11 @@ abbrev μ-loop : tie.MeasureT-loop
 loop-holds : tie.Need-loop-holds Inv-loop μ-loop
 loop-holds c = zeroed-none (omega arith)
 
-mul-rows : tie.Need-mul-rows Inv-loop μ-loop
-mul-rows c = search needs
-
-slice-set-of-rows : tie.Need-slice-set-of-rows Inv-loop μ-loop
-slice-set-of-rows c = search needs
-
-add-i : tie.Need-add-i Inv-loop μ-loop
-add-i c = search needs
-
 loop-less : tie.Need-loop-less Inv-loop μ-loop
 loop-less c = simp length-set (omega arith)
 
 loop-again : tie.Need-loop-again Inv-loop μ-loop
 loop-again c = zeroed-more (c .before .loop .inv) (c .loop-test .taken)
-
-same-length : tie.Need-same-length Inv-loop μ-loop
-same-length c = search needs
 
 returns : tie.Need-returns Inv-loop μ-loop
 returns c = simp unary-clauses at (zeroed-all (c .before .loop .inv) (c .loop-test .left))
@@ -45,10 +33,6 @@ clear-spec =
     Inv-loop
     μ-loop
     loop-holds
-    mul-rows
-    slice-set-of-rows
-    add-i
-    loop-less
+    (search needs) (search needs) (search needs) loop-less
     loop-again
-    same-length
-    returns)
+    (search needs) returns)

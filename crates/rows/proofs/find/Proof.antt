@@ -17,14 +17,8 @@ Inv-loop rows peak level side tip n r₀ r = (r ≤ n) × ((k : ℕ) → k < r �
 abbrev μ-loop : tie.MeasureT-loop
 μ-loop rows peak level side tip n r₀ r = n - r
 
-lower-of-requires : tie.Need-lower-of-requires Inv-loop μ-loop
-lower-of-requires c κs = search needs
-
 loop-holds : tie.Need-loop-holds Inv-loop μ-loop
 loop-holds c = (search needs, λ k h. absurd (omega arith))
-
-has-tip-requires : tie.Need-has-tip-requires Inv-loop μ-loop
-has-tip-requires c κs = search needs
 
 returns : tie.Need-returns Inv-loop μ-loop
 returns c =
@@ -32,12 +26,6 @@ returns c =
     let l = c .before .before .before .loop in
     found (λ k. hasTip pointPlaces (a .level) (a .side) (a .tip) (lookRow (a .rows .now) k)) (a .peak) (c .before .before .before .before .lower-of .result) (omega arith)
     (l .r) (c .before .before .loop-test .taken) (sym (c .before .has-tip .ensures) ∙ c .if1 .taken) (l .inv .1)
-
-add-r : tie.Need-add-r Inv-loop μ-loop
-add-r c = search needs
-
-loop-less : tie.Need-loop-less Inv-loop μ-loop
-loop-less c = search needs
 
 loop-again : tie.Need-loop-again Inv-loop μ-loop
 loop-again c = (search needs, below-more _ _ (c .before .before .before .loop .inv .1) (sym (c .before .has-tip .ensures) ∙ c .if1 .left))
@@ -55,11 +43,7 @@ find-spec =
     (tie.spec
     Inv-loop
     μ-loop
-    lower-of-requires
-    loop-holds
-    has-tip-requires
-    returns
-    add-r
-    loop-less
-    loop-again
+    (search needs) loop-holds
+    (search needs) returns
+    (search needs) (search needs) loop-again
     returns-2)

@@ -7,27 +7,6 @@ use Rattle.rows.proofs.Tips.{mark-fits, other-tip, finished-there, leve
 use Rattle.rows.proofs.has_tip.Statement.{statement}
 use Rattle.rows.proofs.has_tip.Tie as tie
 
-branch-at-requires : tie.Need-branch-at-requires
-branch-at-requires c κs = search needs
-
-mul-is-at : tie.Need-mul-is-at
-mul-is-at c = search needs
-
-shared-slice-copy-out-is-at : tie.Need-shared-slice-copy-out-is-at
-shared-slice-copy-out-is-at c = search needs
-
-add-is-at : tie.Need-add-is-at
-add-is-at c = search needs
-
-mul-is-at-2 : tie.Need-mul-is-at-2
-mul-is-at-2 c = search needs
-
-shared-slice-copy-out-is-at-2 : tie.Need-shared-slice-copy-out-is-at-2
-shared-slice-copy-out-is-at-2 c = search needs
-
-is-at-requires : tie.Need-is-at-requires
-is-at-requires c κs = search needs
-
 returns : tie.Need-returns
 returns c =
     let g = c .before .before .before .before .before in
@@ -35,33 +14,12 @@ returns c =
     other-tip (g .args .rows .now) (g .args .r) (g .args .level) (g .args .side) (g .args .tip) (g .pre .0) (c .before .before .before .before .branch-at .result)
     (c .before .before .before .before .branch-at .ensures .0) (sym e ∙ not-true _ (c .if1 .taken))
 
-add-if2 : tie.Need-add-if2
-add-if2 c = search needs
-
-mul-if2 : tie.Need-mul-if2
-mul-if2 c = search needs
-
-shared-slice-copy-out-if2 : tie.Need-shared-slice-copy-out-if2
-shared-slice-copy-out-if2 c = search needs
-
 returns-2 : tie.Need-returns-2
 returns-2 c =
     let g = c .before .before .before .before .before .before .before in
     finished-there (g .args .rows .now) (g .args .r) (g .args .level) (g .args .side) (g .args .tip) (g .pre .0)
     (c .before .before .before .before .before .before .branch-at .result) (c .before .before .before .before .before .before .branch-at .ensures .0)
     (c .before .if22 .given) (c .if2 .taken)
-
-mul-result : tie.Need-mul-result
-mul-result c = search needs
-
-mul-result-2 : tie.Need-mul-result-2
-mul-result-2 c = search needs
-
-shared-slice-copy-out-result : tie.Need-shared-slice-copy-out-result
-shared-slice-copy-out-result c = search needs
-
-cast-result : tie.Need-cast-result
-cast-result c = search needs
 
 add-result : tie.Need-add-result
 add-result c =
@@ -80,21 +38,7 @@ pub has-tip-spec : {M : Type 1} → statement M
 has-tip-spec =
     tie.close
     (tie.spec
-    branch-at-requires
-    mul-is-at
-    shared-slice-copy-out-is-at
-    add-is-at
-    mul-is-at-2
-    shared-slice-copy-out-is-at-2
-    is-at-requires
-    returns
-    add-if2
-    mul-if2
-    shared-slice-copy-out-if2
-    returns-2
-    mul-result
-    mul-result-2
-    shared-slice-copy-out-result
-    cast-result
-    add-result
+    (search needs) (search needs) (search needs) (search needs) (search needs) (search needs) (search needs) returns
+    (search needs) (search needs) (search needs) returns-2
+    (search needs) (search needs) (search needs) (search needs) add-result
     returns-3)

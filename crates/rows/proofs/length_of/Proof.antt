@@ -5,21 +5,6 @@ use borrow.Author.Needs.{needs}
 use Rattle.rows.proofs.length_of.Statement.{statement}
 use Rattle.rows.proofs.length_of.Tie as tie
 
-branch-at-requires : tie.Need-branch-at-requires
-branch-at-requires c κs = search needs
-
-add-length-in : tie.Need-add-length-in
-add-length-in c = search needs
-
-mul-length-in : tie.Need-mul-length-in
-mul-length-in c = search needs
-
-shared-slice-copy-out-length-in : tie.Need-shared-slice-copy-out-length-in
-shared-slice-copy-out-length-in c = search needs
-
-length-in-requires : tie.Need-length-in-requires
-length-in-requires c κs = search needs
-
 returns : tie.Need-returns
 returns c =
     let a = c .before .before .before .args in
@@ -29,10 +14,4 @@ returns c =
 pub length-of-spec : {M : Type 1} → statement M
 length-of-spec =
     tie.close
-    (tie.spec
-    branch-at-requires
-    add-length-in
-    mul-length-in
-    shared-slice-copy-out-length-in
-    length-in-requires
-    returns)
+    (tie.spec (search needs) (search needs) (search needs) (search needs) (search needs) returns)

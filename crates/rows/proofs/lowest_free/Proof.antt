@@ -16,20 +16,8 @@ Inv-loop rows peak n r₀ r = (r ≤ n) × ((k : ℕ) → k < r → not (lookRow
 abbrev μ-loop : tie.MeasureT-loop
 μ-loop rows peak n r₀ r = n - r
 
-lower-of-requires : tie.Need-lower-of-requires Inv-loop μ-loop
-lower-of-requires c κs = search needs
-
 loop-holds : tie.Need-loop-holds Inv-loop μ-loop
 loop-holds c = (search needs, λ k h. absurd (omega arith))
-
-mul-if1 : tie.Need-mul-if1 Inv-loop μ-loop
-mul-if1 c = search needs
-
-mul-if1-2 : tie.Need-mul-if1-2 Inv-loop μ-loop
-mul-if1-2 c = search needs
-
-shared-slice-copy-out-if1 : tie.Need-shared-slice-copy-out-if1 Inv-loop μ-loop
-shared-slice-copy-out-if1 c = search needs
 
 returns : tie.Need-returns Inv-loop μ-loop
 returns c =
@@ -37,12 +25,6 @@ returns c =
     let l = c .before .before .before .loop in
     let t = row-free (a .rows .now) (l .r) (omega arith) (c .before .if12 .given) true (c .if1 .taken) in
     free-found (a .rows .now) (a .peak) (c .before .before .before .before .lower-of .result) (c .before .before .before .before .lower-of .ensures) (l .r) (c .before .before .loop-test .taken) t (l .inv .1)
-
-add-r : tie.Need-add-r Inv-loop μ-loop
-add-r c = search needs
-
-loop-less : tie.Need-loop-less Inv-loop μ-loop
-loop-less c = search needs
 
 loop-again : tie.Need-loop-again Inv-loop μ-loop
 loop-again c =
@@ -63,13 +45,7 @@ lowest-free-spec =
     (tie.spec
     Inv-loop
     μ-loop
-    lower-of-requires
-    loop-holds
-    mul-if1
-    mul-if1-2
-    shared-slice-copy-out-if1
-    returns
-    add-r
-    loop-less
-    loop-again
+    (search needs) loop-holds
+    (search needs) (search needs) (search needs) returns
+    (search needs) (search needs) loop-again
     returns-2)

@@ -11,38 +11,11 @@ use borrow.Author.Needs.{needs}
 use Rattle.rows.proofs.move_tip.Statement.{statement}
 use Rattle.rows.proofs.move_tip.Tie as tie
 
-branch-at-requires : tie.Need-branch-at-requires
-branch-at-requires c κs = search needs
-
-mul-x : tie.Need-mul-x
-mul-x c = search needs
-
-slice-set-from-x : tie.Need-slice-set-from-x
-slice-set-from-x c = search needs
-
-add-y : tie.Need-add-y
-add-y c = search needs
-
-mul-y : tie.Need-mul-y
-mul-y c = search needs
-
 slice-set-from-y : tie.Need-slice-set-from-y
 slice-set-from-y c = simp length-set (omega arith)
 
-cast-rows : tie.Need-cast-rows
-cast-rows c = search needs
-
-add-t11 : tie.Need-add-t11
-add-t11 c = search needs
-
-mul-t13 : tie.Need-mul-t13
-mul-t13 c = search needs
-
 slice-set-from-rows : tie.Need-slice-set-from-rows
 slice-set-from-rows c = simp length-set (omega arith)
-
-same-length : tie.Need-same-length
-same-length c = search needs
 
 returns : tie.Need-returns
 unfolding movedIn
@@ -60,15 +33,6 @@ pub move-tip-spec : {M : Type 1} → statement M
 move-tip-spec =
     tie.close
     (tie.spec
-    branch-at-requires
-    mul-x
-    slice-set-from-x
-    add-y
-    mul-y
-    slice-set-from-y
-    cast-rows
-    add-t11
-    mul-t13
-    slice-set-from-rows
-    same-length
-    returns)
+    (search needs) (search needs) (search needs) (search needs) (search needs) slice-set-from-y
+    (search needs) (search needs) (search needs) slice-set-from-rows
+    (search needs) returns)

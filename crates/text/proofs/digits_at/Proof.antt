@@ -7,9 +7,6 @@ use borrow.Author.Needs.{needs}
 use Rattle.text.proofs.digits_at.Statement.{statement}
 use Rattle.text.proofs.digits_at.Tie as tie
 
-minus-at-requires : tie.Need-minus-at-requires
-minus-at-requires c κs = search needs
-
 add-result : tie.Need-add-result
 add-result c = omega (arith, minus-stands _ _ (sym (c .before .minus-at .ensures) ∙ c .if1 .taken))
 
@@ -22,4 +19,4 @@ unfolding digitsAt
 returns-2 c = rw (sym (c .before .minus-at .ensures) ∙ c .if1 .left)
 
 pub digits-at-spec : {M : Type 1} → statement M
-digits-at-spec = tie.close (tie.spec minus-at-requires add-result returns returns-2)
+digits-at-spec = tie.close (tie.spec (search needs) add-result returns returns-2)

@@ -16,12 +16,6 @@ abbrev μ-loop : tie.MeasureT-loop
 loop-holds : tie.Need-loop-holds Inv-loop μ-loop
 loop-holds c = (search needs, none-yet _)
 
-byte-at-requires : tie.Need-byte-at-requires Inv-loop μ-loop
-byte-at-requires c κs = search needs
-
-is-digit-requires : tie.Need-is-digit-requires Inv-loop μ-loop
-is-digit-requires c κs = search needs
-
 returns : tie.Need-returns Inv-loop μ-loop
 unfolding digitsFrom
 returns c =
@@ -29,12 +23,6 @@ returns c =
     (c .before .before .before .before .loop .inv .1)
     (search needs)
     (tried _ _ _ (c .before .before .byte-at .ensures) (c .before .is-digit .ensures) (c .if1 .taken))
-
-add-k : tie.Need-add-k Inv-loop μ-loop
-add-k c = search needs
-
-loop-less : tie.Need-loop-less Inv-loop μ-loop
-loop-less c = search needs
 
 loop-again : tie.Need-loop-again Inv-loop μ-loop
 loop-again c = (
@@ -55,10 +43,6 @@ digits-from-spec =
     Inv-loop
     μ-loop
     loop-holds
-    byte-at-requires
-    is-digit-requires
-    returns
-    add-k
-    loop-less
-    loop-again
+    (search needs) (search needs) returns
+    (search needs) (search needs) loop-again
     returns-2)

@@ -8,12 +8,9 @@ use borrow.Author.Needs.{needs}
 use Rattle.text.proofs.minus_at.Statement.{statement}
 use Rattle.text.proofs.minus_at.Tie as tie
 
-byte-at-requires : tie.Need-byte-at-requires
-byte-at-requires c κs = search needs
-
 returns : tie.Need-returns
 unfolding minusAt
 returns c = ap (λ (b : ℕ). eqb b 45) (byte-here _ _ (c .byte-at .ensures))
 
 pub minus-at-spec : {M : Type 1} → statement M
-minus-at-spec = tie.close (tie.spec byte-at-requires returns)
+minus-at-spec = tie.close (tie.spec (search needs) returns)

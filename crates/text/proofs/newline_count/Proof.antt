@@ -21,20 +21,8 @@ loop-holds : tie.Need-loop-holds Inv-loop μ-loop
 unfolding count
 loop-holds c = (search needs, refl)
 
-byte-at-requires : tie.Need-byte-at-requires Inv-loop μ-loop
-byte-at-requires c κs = search needs
-
 add-choose : tie.Need-add-choose Inv-loop μ-loop
 add-choose c = omega (arith, c .before .before .loop .inv .1, count-le (newlineAt (c .before .before .before .before .args .text .now)) (c .before .before .loop .k))
-
-choose-requires : tie.Need-choose-requires Inv-loop μ-loop
-choose-requires c κs = search needs
-
-add-k : tie.Need-add-k Inv-loop μ-loop
-add-k c = search needs
-
-loop-less : tie.Need-loop-less Inv-loop μ-loop
-loop-less c = search needs
 
 loop-again : tie.Need-loop-again Inv-loop μ-loop
 loop-again c = (search needs, counted _ _ (c .before .byte-at .ensures) (c .before .before .before .loop .inv .1) (c .choose .ensures))
@@ -50,10 +38,6 @@ newline-count-spec =
     Inv-loop
     μ-loop
     loop-holds
-    byte-at-requires
-    add-choose
-    choose-requires
-    add-k
-    loop-less
-    loop-again
+    (search needs) add-choose
+    (search needs) (search needs) (search needs) loop-again
     returns)

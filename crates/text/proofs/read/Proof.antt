@@ -7,14 +7,8 @@ use Rattle.text.proofs.read.Tie as tie
 returns : tie.Need-returns
 returns c = many-bytes _ _ (c .if1 .taken)
 
-line-count-requires : tie.Need-line-count-requires
-line-count-requires c κs = search needs
-
 returns-2 : tie.Need-returns-2
 returns-2 c = many-lines _ (c .before .before .if1 .left) (c .before .line-count .ensures) _ (c .if2 .taken)
-
-mul-if3 : tie.Need-mul-if3
-mul-if3 c = search needs
 
 returns-3 : tie.Need-returns-3
 returns-3 c =
@@ -24,12 +18,6 @@ returns-3 c =
     (c .before .if2 .left)
     _
     (c .if3 .taken)
-
-read-lines-requires : tie.Need-read-lines-requires
-read-lines-requires c κs = search needs
-
-same-length : tie.Need-same-length
-same-length c = search needs
 
 returns-4 : tie.Need-returns-4
 returns-4 c =
@@ -43,4 +31,4 @@ returns-4 c =
 pub read-spec : {M : Type 1} → statement M
 read-spec =
     tie.close
-    (tie.spec returns line-count-requires returns-2 mul-if3 returns-3 read-lines-requires same-length returns-4)
+    (tie.spec returns (search needs) returns-2 (search needs) returns-3 (search needs) (search needs) returns-4)

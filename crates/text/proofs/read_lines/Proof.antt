@@ -16,21 +16,6 @@ abbrev μ-loop : tie.MeasureT-loop
 loop-holds : tie.Need-loop-holds Inv-loop μ-loop
 loop-holds c = (search needs, none-so-far _ _)
 
-line-requires : tie.Need-line-requires Inv-loop μ-loop
-line-requires c κs = search needs
-
-enum-known-edge : tie.Need-enum-known-edge Inv-loop μ-loop
-enum-known-edge c = search needs
-
-enum-told : tie.Need-enum-told Inv-loop μ-loop
-enum-told c = search needs
-
-add-t10 : tie.Need-add-t10 Inv-loop μ-loop
-add-t10 c = search needs
-
-cast-t11 : tie.Need-cast-t11 Inv-loop μ-loop
-cast-t11 c = search needs
-
 same-length : tie.Need-same-length Inv-loop μ-loop
 same-length c = c .before .before .before .before .loop .inv .1 .filled .same-length
 
@@ -39,12 +24,6 @@ returns c = stopped _ (c .before .before .before .before .loop .inv .1) (search 
 
 put-requires : tie.Need-put-requires Inv-loop μ-loop
 put-requires c κs = omega (arith, c .before .before .before .before .before .before .loop .inv .1 .filled .same-length)
-
-add-n : tie.Need-add-n Inv-loop μ-loop
-add-n c = search needs
-
-loop-less : tie.Need-loop-less Inv-loop μ-loop
-loop-less c = search needs
 
 loop-again : tie.Need-loop-again Inv-loop μ-loop
 loop-again c = (
@@ -70,16 +49,9 @@ read-lines-spec =
     Inv-loop
     μ-loop
     loop-holds
-    line-requires
-    enum-known-edge
-    enum-told
-    add-t10
-    cast-t11
-    same-length
+    (search needs) (search needs) (search needs) (search needs) (search needs) same-length
     returns
     put-requires
-    add-n
-    loop-less
-    loop-again
+    (search needs) (search needs) loop-again
     same-length-2
     returns-2)

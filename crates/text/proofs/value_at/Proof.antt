@@ -31,12 +31,6 @@ mul-value c =
       c .before .loop .inv .1,
     )
 
-byte-at-requires : tie.Need-byte-at-requires Inv-loop μ-loop
-byte-at-requires c κs = search needs
-
-figure-requires : tie.Need-figure-requires Inv-loop μ-loop
-figure-requires c κs = search needs
-
 add-value : tie.Need-add-value Inv-loop μ-loop
 add-value c =
     omega (
@@ -49,12 +43,6 @@ add-value c =
           (search needs),
       value-grown _ _ _ (c .before .before .before .loop .inv .1) (c .before .byte-at .ensures) (c .figure .ensures),
     )
-
-add-k : tie.Need-add-k Inv-loop μ-loop
-add-k c = search needs
-
-loop-less : tie.Need-loop-less Inv-loop μ-loop
-loop-less c = search needs
 
 loop-again : tie.Need-loop-again Inv-loop μ-loop
 loop-again c = (
@@ -73,10 +61,6 @@ value-at-spec =
     μ-loop
     loop-holds
     mul-value
-    byte-at-requires
-    figure-requires
-    add-value
-    add-k
-    loop-less
-    loop-again
+    (search needs) (search needs) add-value
+    (search needs) (search needs) loop-again
     returns)

@@ -5,9 +5,6 @@ use borrow.Author.Needs.{needs}
 use Rattle.text.proofs.with_sign.Statement.{statement}
 use Rattle.text.proofs.with_sign.Tie as tie
 
-cast-result : tie.Need-cast-result
-cast-result c = search needs
-
 sub-result : tie.Need-sub-result
 sub-result c = negated-fits _ (c .before .pre)
 
@@ -15,12 +12,9 @@ returns : tie.Need-returns
 unfolding signed
 returns c = rw (negated (c .before .args .value) (c .before .pre), c .if1 .taken)
 
-cast-result-2 : tie.Need-cast-result-2
-cast-result-2 c = search needs
-
 returns-2 : tie.Need-returns-2
 unfolding signed
 returns-2 c = rw (unchanged (c .before .args .value) (c .before .pre), c .if1 .left)
 
 pub with-sign-spec : {M : Type 1} → statement M
-with-sign-spec = tie.close (tie.spec cast-result sub-result returns cast-result-2 returns-2)
+with-sign-spec = tie.close (tie.spec (search needs) sub-result returns (search needs) returns-2)

@@ -37,21 +37,6 @@ loop-holds : tie.Need-loop-holds Inv-loop μ-loop
 unfolding numbersOf
 loop-holds c = marking-none _ _ _ (c .before .before .before .before .pre .1 .1)
 
-mul-key : tie.Need-mul-key Inv-loop μ-loop
-mul-key c = search needs
-
-shared-slice-read-key : tie.Need-shared-slice-read-key Inv-loop μ-loop
-shared-slice-read-key c = search needs
-
-mul-key-2 : tie.Need-mul-key-2 Inv-loop μ-loop
-mul-key-2 c = search needs
-
-shared-slice-read-key-2 : tie.Need-shared-slice-read-key-2 Inv-loop μ-loop
-shared-slice-read-key-2 c = search needs
-
-key-requires : tie.Need-key-requires Inv-loop μ-loop
-key-requires c κs = search needs
-
 place-from-requires : tie.Need-place-from-requires Inv-loop μ-loop
 unfolding numbersOf
 place-from-requires c κs = c .before .before .before .before .before .before .before .before .before .pre .1 .0 .rising
@@ -65,17 +50,11 @@ slice-read-earlier c = room (c .before)
 cast-earlier : tie.Need-cast-earlier Inv-loop μ-loop
 cast-earlier c = record { fits = omega (arith, c .slice-known2 .given (c .before .place-from .result)) }
 
-same-length : tie.Need-same-length Inv-loop μ-loop
-same-length c = search needs
-
 returns : tie.Need-returns Inv-loop μ-loop
 unfolding numbersOf
 returns c =
     let keyed = c .before .before .before .before .before .before .before .before .before .before .before .before .pre .1 .0 in
     (marking-found keyed (c .before .before .before .before .before .before .before .loop .inv) (c .before .before .before .before .before .before .loop-test .taken) (here (c .before .before)) (c .if1 .taken), λ all. absurd (omega arith))
-
-cast-order : tie.Need-cast-order Inv-loop μ-loop
-cast-order c = search needs
 
 mul-order : tie.Need-mul-order Inv-loop μ-loop
 mul-order c = omega (arith, room (c .before .before))
@@ -83,20 +62,11 @@ mul-order c = omega (arith, room (c .before .before))
 slice-write-order : tie.Need-slice-write-order Inv-loop μ-loop
 slice-write-order c = room (c .before .before)
 
-add-later : tie.Need-add-later Inv-loop μ-loop
-add-later c = search needs
-
-loop-less : tie.Need-loop-less Inv-loop μ-loop
-loop-less c = search needs
-
 loop-again : tie.Need-loop-again Inv-loop μ-loop
 unfolding numbersOf
 loop-again c =
     let keyed = c .before .before .before .before .before .before .before .before .before .before .before .before .pre .1 .0 in
     marking-more keyed (c .before .before .before .before .before .before .before .loop .inv) (c .before .before .before .before .before .before .loop-test .taken) (here (c .before .before)) (c .if1 .left)
-
-same-length-2 : tie.Need-same-length-2 Inv-loop μ-loop
-same-length-2 c = search needs
 
 returns-2 : tie.Need-returns-2 Inv-loop μ-loop
 unfolding numbersOf
@@ -112,22 +82,12 @@ first-again-spec =
     Inv-loop
     μ-loop
     loop-holds
-    mul-key
-    shared-slice-read-key
-    mul-key-2
-    shared-slice-read-key-2
-    key-requires
-    place-from-requires
+    (search needs) (search needs) (search needs) (search needs) (search needs) place-from-requires
     mul-earlier
     slice-read-earlier
     cast-earlier
-    same-length
-    returns
-    cast-order
-    mul-order
+    (search needs) returns
+    (search needs) mul-order
     slice-write-order
-    add-later
-    loop-less
-    loop-again
-    same-length-2
-    returns-2)
+    (search needs) (search needs) loop-again
+    (search needs) returns-2)

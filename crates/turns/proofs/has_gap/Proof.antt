@@ -5,18 +5,6 @@ use Rattle.turns.proofs.Gaps.{gap-by-sequence, gap-by-polygon}
 use Rattle.turns.proofs.has_gap.Statement.{statement}
 use Rattle.turns.proofs.has_gap.Tie as tie
 
-mul-polygon : tie.Need-mul-polygon
-mul-polygon c = search needs
-
-shared-slice-read-polygon : tie.Need-shared-slice-read-polygon
-shared-slice-read-polygon c = search needs
-
-mul-sequence-missing : tie.Need-mul-sequence-missing
-mul-sequence-missing c = search needs
-
-shared-slice-read-sequence-missing : tie.Need-shared-slice-read-sequence-missing
-shared-slice-read-sequence-missing c = search needs
-
 sequence-missing-requires : tie.Need-sequence-missing-requires
 unfolding numbersOf
 sequence-missing-requires c κs = c .before .before .before .before .before .pre .1 .rising
@@ -37,11 +25,7 @@ pub has-gap-spec : {M : Type 1} → statement M
 has-gap-spec =
     tie.close
     (tie.spec
-    mul-polygon
-    shared-slice-read-polygon
-    mul-sequence-missing
-    shared-slice-read-sequence-missing
-    sequence-missing-requires
+    (search needs) (search needs) (search needs) (search needs) sequence-missing-requires
     returns
     polygon-missing-requires
     returns-2)

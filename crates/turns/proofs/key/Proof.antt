@@ -4,15 +4,9 @@ use Rattle.turns.specs.Keys.{keyOf}
 use Rattle.turns.proofs.key.Statement.{statement}
 use Rattle.turns.proofs.key.Tie as tie
 
-mul-result : tie.Need-mul-result
-mul-result c = search needs
-
-add-result : tie.Need-add-result
-add-result c = search needs
-
 returns : tie.Need-returns
 unfolding keyOf
 returns c = search needs
 
 pub key-spec : {M : Type 1} → statement M
-key-spec = tie.close (tie.spec mul-result add-result returns)
+key-spec = tie.close (tie.spec (search needs) (search needs) returns)

@@ -9,15 +9,6 @@ use Rattle.turns.proofs.last_polygon.Tie as tie
 returns : tie.Need-returns
 returns c = last-none _ _ (c .if1 .taken)
 
-sub-result : tie.Need-sub-result
-sub-result c = search needs
-
-mul-result : tie.Need-mul-result
-mul-result c = search needs
-
-shared-slice-read-result : tie.Need-shared-slice-read-result
-shared-slice-read-result c = search needs
-
 cast-result : tie.Need-cast-result
 cast-result c = record { fits = omega (arith, c .shared-slice-known .given (c .before .before .args .n - 1)) }
 
@@ -27,4 +18,4 @@ returns-2 c = last-some _ _ (c .before .if1 .left)
 pub last-polygon-spec : {M : Type 1} → statement M
 last-polygon-spec =
     tie.close
-    (tie.spec returns sub-result mul-result shared-slice-read-result cast-result returns-2)
+    (tie.spec returns (search needs) (search needs) (search needs) cast-result returns-2)

@@ -6,15 +6,6 @@ use Rattle.turns.proofs.Keys.{keyed-sorted}
 use Rattle.turns.proofs.order_keys.Statement.{statement}
 use Rattle.turns.proofs.order_keys.Tie as tie
 
-pack-keys-requires : tie.Need-pack-keys-requires
-pack-keys-requires c κs = search needs
-
-sort-requires : tie.Need-sort-requires
-sort-requires c κs = search needs
-
-same-length : tie.Need-same-length
-same-length c = search needs
-
 returns : tie.Need-returns
 unfolding numbersOf
 returns c =
@@ -22,4 +13,4 @@ returns c =
     keyed-sorted packed (c .before .before .sort .ensures) (search needs) (λ e. omega (arith, c .before .before .before .before .before .before .before .before .before .shared-slice-known2 .given e))
 
 pub order-keys-spec : {M : Type 1} → statement M
-order-keys-spec = tie.close (tie.spec pack-keys-requires sort-requires same-length returns)
+order-keys-spec = tie.close (tie.spec (search needs) (search needs) (search needs) returns)

@@ -16,27 +16,6 @@ abbrev μ-loop : tie.MeasureT-loop
 loop-holds : tie.Need-loop-holds Inv-loop μ-loop
 loop-holds c = halving-all _ _
 
-sub-middle : tie.Need-sub-middle Inv-loop μ-loop
-sub-middle c = search needs
-
-add-middle : tie.Need-add-middle Inv-loop μ-loop
-add-middle c = search needs
-
-mul-below : tie.Need-mul-below Inv-loop μ-loop
-mul-below c = search needs
-
-shared-slice-read-below : tie.Need-shared-slice-read-below Inv-loop μ-loop
-shared-slice-read-below c = search needs
-
-add-choose : tie.Need-add-choose Inv-loop μ-loop
-add-choose c = search needs
-
-choose-requires : tie.Need-choose-requires Inv-loop μ-loop
-choose-requires c κs = search needs
-
-choose-requires-2 : tie.Need-choose-requires-2 Inv-loop μ-loop
-choose-requires-2 c κs = search needs
-
 loop-less : tie.Need-loop-less Inv-loop μ-loop
 loop-less c = halved-less (c .before .before .before .before .before .before .pre) _ _ (search needs) (search needs) (c .before .choose .ensures) (c .choose2 .ensures)
 
@@ -56,13 +35,6 @@ place-from-spec =
     Inv-loop
     μ-loop
     loop-holds
-    sub-middle
-    add-middle
-    mul-below
-    shared-slice-read-below
-    add-choose
-    choose-requires
-    choose-requires-2
-    loop-less
+    (search needs) (search needs) (search needs) (search needs) (search needs) (search needs) (search needs) loop-less
     loop-again
     returns)

@@ -5,21 +5,12 @@ use Rattle.turns.proofs.Places.{none-between, some-between}
 use Rattle.turns.proofs.stands.Statement.{statement}
 use Rattle.turns.proofs.stands.Tie as tie
 
-place-from-requires : tie.Need-place-from-requires
-place-from-requires c κs = search needs
-
 returns : tie.Need-returns
 returns c = let found = c .before .place-from .ensures in none-between (c .before .before .before .pre) _ _ (omega (arith, found))
-
-mul-result : tie.Need-mul-result
-mul-result c = search needs
-
-shared-slice-read-result : tie.Need-shared-slice-read-result
-shared-slice-read-result c = search needs
 
 returns-2 : tie.Need-returns-2
 returns-2 c = let found = c .before .before .place-from .ensures in rw found (some-between (c .before .before .before .before .pre) _ _ (omega (arith, found)))
 
 pub stands-spec : {M : Type 1} → statement M
 stands-spec =
-    tie.close (tie.spec place-from-requires returns mul-result shared-slice-read-result returns-2)
+    tie.close (tie.spec (λ c κs. search needs) returns (search needs) (search needs) returns-2)

@@ -5,9 +5,6 @@ use Rattle.turns.proofs.Answering.{turned-differing, turned-numbers, tu
 use Rattle.turns.proofs.turn_list.Statement.{statement}
 use Rattle.turns.proofs.turn_list.Tie as tie
 
-lengths-differ-requires : tie.Need-lengths-differ-requires
-lengths-differ-requires c κs = search needs
-
 returns : tie.Need-returns
 returns c = (turned-differing _ _ _ (c .before .lengths-differ .ensures) (c .if1 .taken), refl)
 
@@ -17,9 +14,6 @@ turn-numbers-requires c κs =
     let a = c .before .before .before .before .before .before .args in
     (turned-sizes _ _ _ told (c .before .if1 .left), turned-room (a .polygons .now) (a .sequences .now) _ told (c .before .if1 .left))
 
-same-length : tie.Need-same-length
-same-length c = search needs
-
 returns-2 : tie.Need-returns-2
 returns-2 c =
     let rest = c .before .before .turn-numbers .ensures in
@@ -28,4 +22,4 @@ returns-2 c =
 pub turn-list-spec : {M : Type 1} → statement M
 turn-list-spec =
     tie.close
-    (tie.spec lengths-differ-requires returns turn-numbers-requires same-length returns-2)
+    (tie.spec (search needs) returns turn-numbers-requires (search needs) returns-2)

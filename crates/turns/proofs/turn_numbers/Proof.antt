@@ -8,48 +8,18 @@ use Rattle.turns.proofs.Accepting.{blank-new, ordered-turns, last-large
 use Rattle.turns.proofs.turn_numbers.Statement.{statement}
 use Rattle.turns.proofs.turn_numbers.Tie as tie
 
-slice-aggregate-order-keys : tie.Need-slice-aggregate-order-keys
-slice-aggregate-order-keys c = search needs
-
-order-keys-requires : tie.Need-order-keys-requires
-order-keys-requires c κs = search needs
-
-first-without-requires : tie.Need-first-without-requires
-first-without-requires c κs = search needs
-
-slice-aggregate-first-again : tie.Need-slice-aggregate-first-again
-slice-aggregate-first-again c = search needs
-
-slice-aggregate-first-again-2 : tie.Need-slice-aggregate-first-again-2
-slice-aggregate-first-again-2 c = search needs
-
 first-again-requires : tie.Need-first-again-requires
 first-again-requires c κs =
     let pre = c .before .before .before .before .before .before .before .before .before .pre in
     (pre .0, (c .before .before .before .before .order-keys .ensures, blank-new _ 4096 (search needs)))
 
-slice-aggregate-first-gap : tie.Need-slice-aggregate-first-gap
-slice-aggregate-first-gap c = search needs
-
-first-gap-requires : tie.Need-first-gap-requires
-first-gap-requires c κs = search needs
-
-cast-t20 : tie.Need-cast-t20
-cast-t20 c = search needs
-
 returns : tie.Need-returns
 returns c = (numbers-without _ _ (c .before .before .before .before .before .before .before .first-without .ensures) (c .if1 .taken), refl)
-
-cast-t22 : tie.Need-cast-t22
-cast-t22 c = search needs
 
 returns-2 : tie.Need-returns-2
 returns-2 c =
     let none = c .before .before .before .before .before .before .before .before .first-without .ensures in
     (numbers-again _ _ none (c .before .if1 .left) (c .before .before .before .before .before .first-again .ensures .0) (c .if2 .taken), refl)
-
-cast-t24 : tie.Need-cast-t24
-cast-t24 c = search needs
 
 returns-3 : tie.Need-returns-3
 returns-3 c =
@@ -57,21 +27,9 @@ returns-3 c =
     let again = c .before .before .before .before .before .before .first-again .ensures .0 in
     (numbers-gap _ _ none (c .before .before .if1 .left) again (c .before .if2 .left) (c .before .before .before .first-gap .ensures) (c .if3 .taken), refl)
 
-slice-aggregate-write-turns : tie.Need-slice-aggregate-write-turns
-slice-aggregate-write-turns c = search needs
-
 write-turns-requires : tie.Need-write-turns-requires
 unfolding numbersOf
 write-turns-requires c κs = search needs
-
-slice-aggregate-last-polygon : tie.Need-slice-aggregate-last-polygon
-slice-aggregate-last-polygon c = search needs
-
-last-polygon-requires : tie.Need-last-polygon-requires
-last-polygon-requires c κs = search needs
-
-same-length : tie.Need-same-length
-same-length c = search needs
 
 returns-4 : tie.Need-returns-4
 unfolding numbersOf
@@ -90,23 +48,9 @@ pub turn-numbers-spec : {M : Type 1} → statement M
 turn-numbers-spec =
     tie.close
     (tie.spec
-    slice-aggregate-order-keys
-    order-keys-requires
-    first-without-requires
-    slice-aggregate-first-again
-    slice-aggregate-first-again-2
-    first-again-requires
-    slice-aggregate-first-gap
-    first-gap-requires
-    cast-t20
-    returns
-    cast-t22
-    returns-2
-    cast-t24
-    returns-3
-    slice-aggregate-write-turns
-    write-turns-requires
-    slice-aggregate-last-polygon
-    last-polygon-requires
-    same-length
-    returns-4)
+    (search needs) (search needs) (search needs) (search needs) (search needs) first-again-requires
+    (search needs) (λ c κs. search needs) (search needs) returns
+    (search needs) returns-2
+    (search needs) returns-3
+    (search needs) write-turns-requires
+    (search needs) (search needs) (search needs) returns-4)

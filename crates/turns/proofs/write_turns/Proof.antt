@@ -17,29 +17,8 @@ abbrev μ-loop : tie.MeasureT-loop
 loop-holds : tie.Need-loop-holds Inv-loop μ-loop
 loop-holds c = (search needs, filled-none _ _)
 
-mul-turns : tie.Need-mul-turns Inv-loop μ-loop
-mul-turns c = search needs
-
-shared-slice-read-turns : tie.Need-shared-slice-read-turns Inv-loop μ-loop
-shared-slice-read-turns c = search needs
-
-mul-turns-2 : tie.Need-mul-turns-2 Inv-loop μ-loop
-mul-turns-2 c = search needs
-
-slice-write-turns : tie.Need-slice-write-turns Inv-loop μ-loop
-slice-write-turns c = search needs
-
-add-p : tie.Need-add-p Inv-loop μ-loop
-add-p c = search needs
-
-loop-less : tie.Need-loop-less Inv-loop μ-loop
-loop-less c = search needs
-
 loop-again : tie.Need-loop-again Inv-loop μ-loop
 loop-again c = (search needs, filled-more _ (c .before .before .loop .inv .1) (search needs) refl)
-
-same-length : tie.Need-same-length Inv-loop μ-loop
-same-length c = search needs
 
 returns : tie.Need-returns Inv-loop μ-loop
 returns c = λ p l. c .before .loop .inv .1 .value p (omega arith)
@@ -51,12 +30,5 @@ write-turns-spec =
     Inv-loop
     μ-loop
     loop-holds
-    mul-turns
-    shared-slice-read-turns
-    mul-turns-2
-    slice-write-turns
-    add-p
-    loop-less
-    loop-again
-    same-length
-    returns)
+    (search needs) (search needs) (search needs) (search needs) (search needs) (search needs) loop-again
+    (search needs) returns)

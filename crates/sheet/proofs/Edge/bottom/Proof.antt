@@ -5,9 +5,6 @@ use Rattle.sheet.specs.Points.{isUp, bottomOf}
 use Rattle.sheet.proofs.Edge.bottom.Statement.{statement}
 use Rattle.sheet.proofs.Edge.bottom.Tie as tie
 
-below-requires : tie.Need-below-requires
-below-requires c κs = search needs
-
 returns : tie.Need-returns
 unfolding bottomOf isUp
 returns c = rw (sym (c .before .below .ensures) ∙ c .if1 .taken)
@@ -17,4 +14,4 @@ unfolding bottomOf isUp
 returns-2 c = rw (sym (c .before .below .ensures) ∙ c .if1 .left)
 
 pub bottom-spec : {M : Type 1} → statement M
-bottom-spec = tie.close (tie.spec below-requires returns returns-2)
+bottom-spec = tie.close (tie.spec (search needs) returns returns-2)

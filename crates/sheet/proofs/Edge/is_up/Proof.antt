@@ -4,12 +4,9 @@ use Rattle.sheet.specs.Points.{isUp}
 use Rattle.sheet.proofs.Edge.is_up.Statement.{statement}
 use Rattle.sheet.proofs.Edge.is_up.Tie as tie
 
-below-requires : tie.Need-below-requires
-below-requires c κs = search needs
-
 returns : tie.Need-returns
 unfolding isUp
 returns c = c .below .ensures
 
 pub is-up-spec : {M : Type 1} → statement M
-is-up-spec = tie.close (tie.spec below-requires returns)
+is-up-spec = tie.close (tie.spec (search needs) returns)

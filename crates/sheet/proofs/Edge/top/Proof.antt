@@ -5,9 +5,6 @@ use Rattle.sheet.specs.Points.{isUp, topOf}
 use Rattle.sheet.proofs.Edge.top.Statement.{statement}
 use Rattle.sheet.proofs.Edge.top.Tie as tie
 
-below-requires : tie.Need-below-requires
-below-requires c κs = search needs
-
 returns : tie.Need-returns
 unfolding topOf isUp
 returns c = rw (sym (c .before .below .ensures) ∙ c .if1 .taken)
@@ -17,4 +14,4 @@ unfolding topOf isUp
 returns-2 c = rw (sym (c .before .below .ensures) ∙ c .if1 .left)
 
 pub top-spec : {M : Type 1} → statement M
-top-spec = tie.close (tie.spec below-requires returns returns-2)
+top-spec = tie.close (tie.spec (search needs) returns returns-2)

@@ -7,12 +7,6 @@ use Rattle.sheet.proofs.Signed.{read-back}
 use Rattle.sheet.proofs.Point.in_range.Statement.{statement}
 use Rattle.sheet.proofs.Point.in_range.Tie as tie
 
-between-limits-requires : tie.Need-between-limits-requires
-between-limits-requires c κs = search needs
-
-between-limits-requires-2 : tie.Need-between-limits-requires-2
-between-limits-requires-2 c κs = search needs
-
 -- x lies between the limits: y decides
 returns : tie.Need-returns
 unfolding inRange
@@ -31,4 +25,4 @@ returns-2 c =
     c .if1 .left ∙ sym (ap (λ (t : Bool). t && within (p .y)) x)
 
 pub in-range-spec : {M : Type 1} → statement M
-in-range-spec = tie.close (tie.spec between-limits-requires between-limits-requires-2 returns returns-2)
+in-range-spec = tie.close (tie.spec (search needs) (search needs) returns returns-2)

@@ -5,24 +5,6 @@ use borrow.Author.Needs.{needs}
 use Rattle.sheet.proofs.Point.rank.Statement.{statement}
 use Rattle.sheet.proofs.Point.rank.Tie as tie
 
-shifted-requires : tie.Need-shifted-requires
-shifted-requires c κs = search needs
-
-shifted-requires-2 : tie.Need-shifted-requires-2
-shifted-requires-2 c κs = search needs
-
-cast-result : tie.Need-cast-result
-cast-result c = search needs
-
-mul-result : tie.Need-mul-result
-mul-result c = search needs
-
-cast-result-2 : tie.Need-cast-result-2
-cast-result-2 c = search needs
-
-add-result : tie.Need-add-result
-add-result c = search needs
-
 returns : tie.Need-returns
 unfolding rank
 returns c =
@@ -33,11 +15,4 @@ returns c =
 pub rank-spec : {M : Type 1} → statement M
 rank-spec =
     tie.close
-    (tie.spec
-    shifted-requires
-    shifted-requires-2
-    cast-result
-    mul-result
-    cast-result-2
-    add-result
-    returns)
+    (tie.spec (search needs) (search needs) (search needs) (search needs) (search needs) (search needs) returns)

@@ -6,27 +6,9 @@ use borrow.Author.Needs.{needs}
 use Rattle.text.proofs.Cursor.field.Statement.{statement}
 use Rattle.text.proofs.Cursor.field.Tie as tie
 
-number-requires : tie.Need-number-requires
-number-requires c κs = search needs
-
-enum-known-value : tie.Need-enum-known-value
-enum-known-value c = search needs
-
-enum-told : tie.Need-enum-told
-enum-told c = search needs
-
 returns : tie.Need-returns
 unfolding fieldAt followed onward
 returns c = rw (sym (c .before .before .number .ensures) ∙ c .enum-told .given .1)
-
-past-requires : tie.Need-past-requires
-past-requires c κs = search needs
-
-enum-known-next : tie.Need-enum-known-next
-enum-known-next c = search needs
-
-enum-told-2 : tie.Need-enum-told-2
-enum-told-2 c = search needs
 
 returns-2 : tie.Need-returns-2
 unfolding fieldAt followed onward
@@ -49,12 +31,6 @@ pub field-spec : {M : Type 1} → statement M
 field-spec =
     tie.close
     (tie.spec
-    number-requires
-    enum-known-value
-    enum-told
-    returns
-    past-requires
-    enum-known-next
-    enum-told-2
-    returns-2
+    (search needs) (search needs) (search needs) returns
+    (search needs) (search needs) (search needs) returns-2
     returns-3)

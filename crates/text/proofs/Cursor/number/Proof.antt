@@ -7,21 +7,6 @@ use borrow.Author.Needs.{needs}
 use Rattle.text.proofs.Cursor.number.Statement.{statement}
 use Rattle.text.proofs.Cursor.number.Tie as tie
 
-minus-at-requires : tie.Need-minus-at-requires
-minus-at-requires c κs = search needs
-
-digits-at-requires : tie.Need-digits-at-requires
-digits-at-requires c κs = search needs
-
-digits-from-requires : tie.Need-digits-from-requires
-digits-from-requires c κs = search needs
-
-byte-at-requires : tie.Need-byte-at-requires
-byte-at-requires c κs = search needs
-
-is-numeral-requires : tie.Need-is-numeral-requires
-is-numeral-requires c κs = search needs
-
 returns : tie.Need-returns
 returns c =
     no-number _ _
@@ -62,12 +47,7 @@ pub number-spec : {M : Type 1} → statement M
 number-spec =
     tie.close
     (tie.spec
-    minus-at-requires
-    digits-at-requires
-    digits-from-requires
-    byte-at-requires
-    is-numeral-requires
-    returns
+    (search needs) (search needs) (search needs) (search needs) (search needs) returns
     value-at-requires
     with-sign-requires
     add-t12

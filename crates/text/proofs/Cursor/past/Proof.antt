@@ -5,12 +5,6 @@ use borrow.Author.Needs.{needs}
 use Rattle.text.proofs.Cursor.past.Statement.{statement}
 use Rattle.text.proofs.Cursor.past.Tie as tie
 
-byte-at-requires : tie.Need-byte-at-requires
-byte-at-requires c κs = search needs
-
-wide-requires : tie.Need-wide-requires
-wide-requires c κs = search needs
-
 add-t8 : tie.Need-add-t8
 add-t8 c = omega (arith, stood _ _ (c .before .before .byte-at .ensures) (c .before .wide .ensures) (c .if1 .taken) (search needs))
 
@@ -21,4 +15,4 @@ returns-2 : tie.Need-returns-2
 returns-2 c = stayed _ _ (c .before .before .byte-at .ensures) (c .before .wide .ensures) (c .if1 .left)
 
 pub past-spec : {M : Type 1} → statement M
-past-spec = tie.close (tie.spec byte-at-requires wide-requires add-t8 returns returns-2)
+past-spec = tie.close (tie.spec (search needs) (search needs) add-t8 returns returns-2)
