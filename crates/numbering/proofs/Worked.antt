@@ -21,6 +21,7 @@ use Rattle.sheet.specs.Passing.{passing, Most}
 use Rattle.sheet.specs.Kinds as kinds
 use Rattle.sheet.specs.Answers as answers
 use Rattle.sheet.specs.Answers.{numberOf, placeOf}
+use Rattle.sheet.proofs.Drawn.{triangle, twoEdges, square, twoPeaks, touching}
 use Rattle.steps.specs.SweepUp as up
 use Rattle.steps.specs.SweepDown as down
 use Rattle.rows.specs.Layout as rows
@@ -81,33 +82,25 @@ refused : List ℕ → ℕ → ℕ → ℕ → List ℕ → Sheet
 refused list rows number place untouched =
     record { list = list; rows = rows; refusal = number; place = place; polygons = 0; peak = 0; records = 0; polygon = untouched; sequence = untouched }
 
-triangle : List ℕ
-triangle = 0 ∷ 0 ∷ 4 ∷ 2 ∷ 4 ∷ 2 ∷ 1 ∷ 5 ∷ 1 ∷ 5 ∷ 0 ∷ 0 ∷ []
-
-twoPeaks : List ℕ
-twoPeaks = 3 ∷ 2 ∷ 1 ∷ 6 ∷ 1 ∷ 6 ∷ 3 ∷ 0 ∷ 3 ∷ 0 ∷ 6 ∷ 8 ∷ 6 ∷ 8 ∷ 3 ∷ 2 ∷ []
-
 empty : Sheet
 empty = accepted [] 0 0 0 0 [] []
 
 one-triangle : Sheet
 one-triangle = accepted triangle 1 1 1 4 (1 ∷ 1 ∷ 1 ∷ []) (1 ∷ 2 ∷ 0 ∷ [])
 
-touching : Sheet
-touching =
-    accepted
-    (3 ∷ 2 ∷ 1 ∷ 6 ∷ 1 ∷ 6 ∷ 3 ∷ 0 ∷ 1 ∷ 6 ∷ 2 ∷ 7 ∷ 3 ∷ 0 ∷ 6 ∷ 8 ∷ 6 ∷ 8 ∷ 3 ∷ 2 ∷ 2 ∷ 7 ∷ 0 ∷ 9 ∷ 0 ∷ 9 ∷ 1 ∷ 6 ∷ [])
-    4 2 4 11 (2 ∷ 2 ∷ 1 ∷ 2 ∷ 2 ∷ 1 ∷ 1 ∷ []) (1 ∷ 2 ∷ 1 ∷ 3 ∷ 0 ∷ 2 ∷ 0 ∷ [])
+two-touching : Sheet
+two-touching =
+    accepted touching 4 2 4 11 (2 ∷ 2 ∷ 1 ∷ 2 ∷ 2 ∷ 1 ∷ 1 ∷ []) (1 ∷ 2 ∷ 1 ∷ 3 ∷ 0 ∷ 2 ∷ 0 ∷ [])
 
 sheets : List Sheet
 sheets =
     empty
     ∷ one-triangle
-    ∷ accepted (0 ∷ 0 ∷ 1 ∷ 1 ∷ 1 ∷ 1 ∷ 0 ∷ 0 ∷ []) 1 1 1 3 (1 ∷ 1 ∷ []) (1 ∷ 0 ∷ [])
-    ∷ accepted (0 ∷ 0 ∷ 2 ∷ 0 ∷ 0 ∷ 2 ∷ 0 ∷ 0 ∷ 2 ∷ 0 ∷ 2 ∷ 2 ∷ 2 ∷ 2 ∷ 0 ∷ 2 ∷ []) 1 1 1 5 (1 ∷ 1 ∷ 1 ∷ 1 ∷ []) (2 ∷ 1 ∷ 3 ∷ 0 ∷ [])
+    ∷ accepted twoEdges 1 1 1 3 (1 ∷ 1 ∷ []) (1 ∷ 0 ∷ [])
+    ∷ accepted square 1 1 1 5 (1 ∷ 1 ∷ 1 ∷ 1 ∷ []) (2 ∷ 1 ∷ 3 ∷ 0 ∷ [])
     ∷ accepted twoPeaks 3 1 3 7 (1 ∷ 1 ∷ 1 ∷ 1 ∷ []) (1 ∷ 2 ∷ 3 ∷ 0 ∷ [])
     ∷ refused twoPeaks 2 10 3 (77 ∷ 77 ∷ 77 ∷ 77 ∷ [])
-    ∷ touching
+    ∷ two-touching
     ∷ refused (0 ∷ 0 ∷ 4 ∷ 2 ∷ triangle) 1 8 1 (77 ∷ 77 ∷ 77 ∷ 77 ∷ [])
     ∷ refused (0 ∷ 0 ∷ 4 ∷ 2 ∷ 4 ∷ 2 ∷ 1 ∷ 5 ∷ []) 1 9 0 (77 ∷ 77 ∷ [])
     ∷ refused (5 ∷ 5 ∷ 5 ∷ 5 ∷ []) 1 6 0 (77 ∷ [])
@@ -124,8 +117,8 @@ record AllWorked : Type 0 where
   of-triangle : outcome (lentFor one-triangle) .answer ≡ Accepted 1 1 4
   lists-of-triangle : outcome (lentFor one-triangle) .polygons ≡ 1 ∷ 1 ∷ 1 ∷ []
   untouched-triangle : lentFor one-triangle .polygons ≡ 77 ∷ 77 ∷ 77 ∷ []
-  lists-of-touching : outcome (lentFor touching) .polygons ≡ 2 ∷ 2 ∷ 1 ∷ 2 ∷ 2 ∷ 1 ∷ 1 ∷ []
-  of-touching : outcome (lentFor touching) .answer ≡ Accepted 2 4 11
+  lists-of-touching : outcome (lentFor two-touching) .polygons ≡ 2 ∷ 2 ∷ 1 ∷ 2 ∷ 2 ∷ 1 ∷ 1 ∷ []
+  of-touching : outcome (lentFor two-touching) .answer ≡ Accepted 2 4 11
   passing-triangle : passing (sheetOf (lentFor one-triangle .list)) trianglePlace ≡ 2
 
 all-worked : AllWorked
@@ -135,11 +128,9 @@ unfolding
     accepted
     refused
     sheets
-    triangle
-    twoPeaks
     empty
     one-triangle
-    touching
+    two-touching
     trianglePlace
     passings.passing
     counting.count
@@ -260,15 +251,15 @@ module _ (engine : Lent → Left) (keeps : (l : Lent) → Promised l (engine l))
   -- one that numbers the first outline and gives every other edge its number too
   fakes-the-rest : ((l : Lent) → getD (engine l .polygons) 0 0 ≡ getD (engine l .polygons) 2 0) → ⊥
   fakes-the-rest f =
-      let e : engine (lentFor touching) .polygons ≡ 2 ∷ 2 ∷ 1 ∷ 2 ∷ 2 ∷ 1 ∷ 1 ∷ [] = ap (λ x. x .polygons) (keeps (lentFor touching) .outcome-is) ∙ all-worked .lists-of-touching in
-      let z : _≡_ {A = ℕ} 2 1 = sym (ap (λ l. getD l 0 0) e) ∙ f (lentFor touching) ∙ ap (λ l. getD l 2 0) e in
+      let e : engine (lentFor two-touching) .polygons ≡ 2 ∷ 2 ∷ 1 ∷ 2 ∷ 2 ∷ 1 ∷ 1 ∷ [] = ap (λ x. x .polygons) (keeps (lentFor two-touching) .outcome-is) ∙ all-worked .lists-of-touching in
+      let z : _≡_ {A = ℕ} 2 1 = sym (ap (λ l. getD l 0 0) e) ∙ f (lentFor two-touching) ∙ ap (λ l. getD l 2 0) e in
       omega arith
 
   -- one that has the same peak for all it accepts: 0, or any other
   invents-a-peak : (k : ℕ) → ((l : Lent) (p j m : ℕ) → engine l .answer ≡ Accepted p j m → j ≡ k) → ⊥
   invents-a-peak k f =
       let a : 1 ≡ k = f (lentFor one-triangle) 1 1 4 (ap (λ x. x .answer) (keeps (lentFor one-triangle) .outcome-is) ∙ all-worked .of-triangle) in
-      let b : 4 ≡ k = f (lentFor touching) 2 4 11 (ap (λ x. x .answer) (keeps (lentFor touching) .outcome-is) ∙ all-worked .of-touching) in
+      let b : 4 ≡ k = f (lentFor two-touching) 2 4 11 (ap (λ x. x .answer) (keeps (lentFor two-touching) .outcome-is) ∙ all-worked .of-touching) in
       omega arith
 
   -- one that gives C for the peak: two edges pass the triangle's places, and it needs one row

@@ -8,3 +8,4 @@ pub mod Leads
 pub mod Outlines
 pub mod OneNumbering
 pub mod Trying
+pub mod Drawn

@@ -10,6 +10,7 @@ use Rattle.laws.specs.Counting as counting
 use Rattle.sheet.specs.Edges as edges
 use Rattle.sheet.specs.Edges.{Sheet, sheetOf}
 use Rattle.sheet.specs.Rank as ranks
+use Rattle.sheet.proofs.Drawn.{triangle, twoEdges, square, twoPeaks, touching}
 use Rattle.steps.specs.declared.End.{End}
 use Rattle.steps.specs.declared.End.the-variants.{Done, NoFreeRow, Overrun}
 use Rattle.steps.specs.Rows.{Row, Record, Room, closing}
@@ -91,23 +92,11 @@ accepted : List ℕ → ℕ → ℕ → ℕ → ℕ → ℕ → List ℕ → Wor
 accepted list rows edge polygons peak records pairs =
     record { list = list; rows = rows; end = Done; edge = edge; polygons = polygons; peak = peak; records = records; pairs = pairs }
 
-triangle : List ℕ
-triangle = 0 ∷ 0 ∷ 4 ∷ 2 ∷ 4 ∷ 2 ∷ 1 ∷ 5 ∷ 1 ∷ 5 ∷ 0 ∷ 0 ∷ []
-
-square : List ℕ
-square = 0 ∷ 0 ∷ 2 ∷ 0 ∷ 0 ∷ 2 ∷ 0 ∷ 0 ∷ 2 ∷ 0 ∷ 2 ∷ 2 ∷ 2 ∷ 2 ∷ 0 ∷ 2 ∷ []
-
-twoPeaks : List ℕ
-twoPeaks = 3 ∷ 2 ∷ 1 ∷ 6 ∷ 1 ∷ 6 ∷ 3 ∷ 0 ∷ 3 ∷ 0 ∷ 6 ∷ 8 ∷ 6 ∷ 8 ∷ 3 ∷ 2 ∷ []
-
-touching : List ℕ
-touching = 3 ∷ 2 ∷ 1 ∷ 6 ∷ 1 ∷ 6 ∷ 3 ∷ 0 ∷ 1 ∷ 6 ∷ 2 ∷ 7 ∷ 3 ∷ 0 ∷ 6 ∷ 8 ∷ 6 ∷ 8 ∷ 3 ∷ 2 ∷ 2 ∷ 7 ∷ 0 ∷ 9 ∷ 0 ∷ 9 ∷ 1 ∷ 6 ∷ []
-
 sheets : List Worked
 sheets =
     accepted [] 0 0 0 0 0 []
     ∷ accepted triangle 1 2 1 1 4 (1 ∷ 1 ∷ 1 ∷ 2 ∷ 1 ∷ 0 ∷ [])
-    ∷ accepted (0 ∷ 0 ∷ 1 ∷ 1 ∷ 1 ∷ 1 ∷ 0 ∷ 0 ∷ []) 1 1 1 1 3 (1 ∷ 1 ∷ 1 ∷ 0 ∷ [])
+    ∷ accepted twoEdges 1 1 1 1 3 (1 ∷ 1 ∷ 1 ∷ 0 ∷ [])
     ∷ accepted square 1 3 1 1 5 (1 ∷ 2 ∷ 1 ∷ 1 ∷ 1 ∷ 3 ∷ 1 ∷ 0 ∷ [])
     ∷ accepted twoPeaks 3 3 1 3 7 (1 ∷ 1 ∷ 1 ∷ 2 ∷ 1 ∷ 3 ∷ 1 ∷ 0 ∷ [])
     ∷ record { list = twoPeaks; rows = 2; end = NoFreeRow; edge = 3; polygons = 0; peak = 0; records = 0; pairs = [] }
@@ -120,10 +109,6 @@ unfolding
     right
     accepted
     sheets
-    triangle
-    square
-    twoPeaks
-    touching
     counting.count
     counting.first
     counting.first-from

@@ -1,0 +1,2 @@
+-- What the statements of this crate settle.
+pub mod OneOutcome

@@ -1,0 +1,17 @@
+-- What the exported functions promise settles the answer and every number in the slices: two outcomes of one call are the same.
+use mathlib.Core.Path.{_≡_, sym, ap, _∙_}
+use mathlib.Core.List.{List}
+use Prim.Native.Nat.{ℕ}
+use lib.ListN.{length}
+use Rattle.sheet.specs.TurnList.{turned}
+use Rattle.numbering.specs.Outcome.{Lent}
+use Rattle.turns.proofs.OneTurnList.{one-outcome}
+use Rattle.desk.specs.declared.Turned.{Turned}
+use Rattle.desk.specs.Exported.{Exported, Exports, ReadTurns, leftBy}
+
+pub one-numbering : (l : Lent) {x y : Exported} → Exports l x → Exports l y → x ≡ y
+one-numbering l a b = a .same ∙ ap leftBy (a .promised .outcome-is ∙ sym (b .promised .outcome-is)) ∙ sym (b .same)
+
+pub one-reading : (polygons sequences before : List ℕ) {s t : List ℕ} {x y : Turned}
+    → ReadTurns polygons sequences before s x → ReadTurns polygons sequences before t y → (x ≡ y) × (s ≡ t)
+one-reading polygons sequences before a b = (a .answer ∙ sym (b .answer), one-outcome polygons sequences (turned polygons sequences (length before)) before _ _ (a .turns) (b .turns))
