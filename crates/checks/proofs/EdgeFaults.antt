@@ -34,21 +34,18 @@ not-below-lowest p h = let w = both-true (within (p .x)) (within (p .y)) h in by
     by true x y = x
     by false x y = y
 
+-- both ends in the range, and so the one that is chosen
+chosen-in-range : (u : Bool) (p q : Point) → inRange p ≡ true → inRange q ≡ true → inRange (cond u p q) ≡ true
+chosen-in-range true p q a b = a
+chosen-in-range false p q a b = b
+
 pub top-in-range : (e : Edge) → inRange (e .tail) ≡ true → inRange (e .head) ≡ true → inRange (topOf e) ≡ true
 unfolding topOf
-top-in-range e t h = by (isUp e)
-  where
-    by : (u : Bool) → inRange (cond u (e .head) (e .tail)) ≡ true
-    by true = h
-    by false = t
+top-in-range e t h = chosen-in-range (isUp e) (e .head) (e .tail) h t
 
 pub bottom-in-range : (e : Edge) → inRange (e .tail) ≡ true → inRange (e .head) ≡ true → inRange (bottomOf e) ≡ true
 unfolding bottomOf
-bottom-in-range e t h = by (isUp e)
-  where
-    by : (u : Bool) → inRange (cond u (e .tail) (e .head)) ≡ true
-    by true = t
-    by false = h
+bottom-in-range e t h = chosen-in-range (isUp e) (e .tail) (e .head) t h
 
 ends-in-range : (e : Edge) → endPastRange e ≡ false → (inRange (e .tail) ≡ true) × (inRange (e .head) ≡ true)
 unfolding endPastRange

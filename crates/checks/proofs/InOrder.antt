@@ -1,18 +1,16 @@
 -- Keys whose ranks, their halves, never fall. Of three numbers with one half two are equal.
 -- So before the first number that an earlier one is equal to, at most two neighbours have one half: that number is equal to one of the two before it.
--- And where no two numbers are equal, those with a given half are at most two, and stand where the numbers reach that half.
-use mathlib.Core.Path.{_≡_, sym, ap, _∙_}
+use mathlib.Core.Path.{_≡_, ap, _∙_}
 use mathlib.Core.Bool.{Bool, true, false, _&&_}
 use mathlib.Core.Logic.{⊎-elim}
 use Prim.Native.Nat.{ℕ, _+_, _-_, _/_, _≤_, _<_}
 use native.Mathlib.Omega.{arith}
 use lib.Dec.{eqb, ltb}
 use borrow.Author.Tests.{lt-ltb, ltb-true, eq-eqb, ne-eqb}
-use Rattle.laws.specs.Counting.{some-below, first}
-use Rattle.laws.proofs.Deciding.{lt-or-le, true-or-false, not-both, both-true, one-true, neither-true}
+use Rattle.laws.specs.Counting.{first}
+use Rattle.laws.proofs.Deciding.{lt-or-le, not-both, both-true, one-true, neither-true}
 use Rattle.laws.proofs.First.{first-le, first-holds, first-least, first-is, below-some, below-none}
 use Rattle.checks.specs.Twins.{twin, nextTwin, nearTwin}
-use Rattle.checks.specs.Meetings.{standsAt, standsThere}
 
 -- two tests that both pass
 both : {a b : Bool} → a ≡ true → b ≡ true → (a && b) ≡ true
@@ -56,45 +54,3 @@ module _ (t : ℕ → ℕ) (n : ℕ) (rising : (a b : ℕ) → a ≤ b → b < n
 
       none : (k : ℕ) → k < r → twin t k ≡ false
       none k l = below-none _ k (λ f fk. ne-eqb _ _ (λ q. ⊎-elim (λ h. far k f l h q) (λ h. not-near t k f (first-least (nearTwin t) n k l) fk h q) (lt-or-le (f + 2) k)))
-
-  module _ (differ : (a b : ℕ) → a < n → b < n → t a ≡ t b → a ≡ b) (p i : ℕ) (passed : (k : ℕ) → k < i → t k / 2 < p) (next : i < n → p ≤ t i / 2) where
-    stands-some : (j k : ℕ) → standsAt t n j k ≡ true → some-below (λ f. eqb (t f) k) n ≡ true
-    unfolding standsAt
-    stands-some j k h = let w = both-true (ltb j n) _ h in below-some _ n j (ltb-true _ _ (w .0)) (w .1)
-
-    stands-not : (j k : ℕ) → j < n → standsAt t n j k ≡ false → t j ≡ k → ⊥
-    unfolding standsAt
-    stands-not j k l h q = not-both (both (lt-ltb j n l) (eq-eqb (t j) k q)) h
-
-    pub two-there : (k : ℕ) → k / 2 ≡ p → standsThere t n i k ≡ some-below (λ f. eqb (t f) k) n
-    two-there k half = ⊎-elim
-        (λ h. h ∙ sym (⊎-elim (stands-some i k) (stands-some (i + 1) k) (one-true (standsAt t n i k) _ h)))
-        (λ h. let w = neither-true (standsAt t n i k) _ h in h ∙ sym (below-none _ n (λ f l. ne-eqb _ _ (other (w .0) (w .1) f l))))
-        (true-or-false (standsThere t n i k))
-      where
-        third : standsAt t n i k ≡ false → standsAt t n (i + 1) k ≡ false → (f : ℕ) → f < n → i + 1 < f → t f ≡ k → ⊥
-        third a b f l m q =
-            let d : t i ≡ t (i + 1) → ⊥ = λ e. let z = differ i (i + 1) (omega arith) (omega arith) e in omega arith in
-            omega (
-              arith,
-              d,
-              stands-not i k (omega arith) a,
-              stands-not (i + 1) k (omega arith) b,
-              next (omega arith),
-              rising i (i + 1) (omega arith) (omega arith),
-              rising (i + 1) f (omega arith) l,
-              half,
-              q,
-            )
-
-        other : standsAt t n i k ≡ false → standsAt t n (i + 1) k ≡ false → (f : ℕ) → f < n → t f ≡ k → ⊥
-        other a b f l q = ⊎-elim
-            (λ h. omega (arith, passed f h, q, half))
-            (λ h. ⊎-elim
-            (λ m. third a b f l m q)
-            (λ m. ⊎-elim
-            (λ g. let e : f ≡ i = omega arith in stands-not i k (omega arith) a (ap t (sym e) ∙ q))
-            (λ g. let e : f ≡ i + 1 = omega arith in stands-not (i + 1) k (omega arith) b (ap t (sym e) ∙ q))
-            (lt-or-le f (i + 1)))
-            (lt-or-le (i + 1) f))
-            (lt-or-le f i)

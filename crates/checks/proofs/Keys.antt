@@ -6,7 +6,7 @@ use mathlib.Core.List.{List}
 use mathlib.Core.Logic.{⊎-elim}
 use Prim.Native.Nat.{ℕ, zero, suc, _+_, _*_, _/_, _≤_, _<_}
 use native.Mathlib.Omega.{arith}
-use lib.Dec.{eqb, ltb}
+use lib.Dec.{eqb}
 use lib.IntN.{ℤ}
 use borrow.Author.Tests.{ltb-true, ltb-false, eq-eqb, ne-eqb}
 use Rattle.laws.specs.Counting.{bit}
@@ -14,11 +14,12 @@ use Rattle.laws.proofs.Deciding.{lt-or-le, not-both}
 use Rattle.laws.proofs.Counting.{bit-le}
 use Rattle.laws.proofs.Tests.{eqb-agree}
 use Rattle.sheet.specs.declared.Point.{Point}
+use Rattle.sheet.specs.declared.Edge.{Edge}
 use Rattle.sheet.specs.Points.{inRange, isBelow, isUp, topOf, bottomOf}
 use Rattle.sheet.specs.Rank.{rank}
 use Rattle.sheet.specs.Edges.{edgeAt, sheetOf}
 use Rattle.sheet.specs.Answers.{topFalls}
-use Rattle.sheet.proofs.Ranks.{rank-below, rank-same}
+use Rattle.sheet.proofs.Ranks.{rank-below, rank-same, rank-small}
 use Rattle.checks.specs.Faults.{Faultless}
 use Rattle.checks.specs.Keys.{topKey, bottomKey, hasTop}
 use Rattle.checks.proofs.EdgeFaults.{tail-in-range, head-in-range, top-in-range, bottom-in-range, ends-differ, top-stays}
@@ -28,13 +29,19 @@ pub data Goes (s : List ℤ) (e : ℕ) : Type 0 where
   up : sheetOf s .tail e < sheetOf s .head e → topKey s e ≡ 2 * sheetOf s .head e + 1 → bottomKey s e ≡ 2 * sheetOf s .tail e + 1 → Goes s e
   down : sheetOf s .head e < sheetOf s .tail e → topKey s e ≡ 2 * sheetOf s .tail e → bottomKey s e ≡ 2 * sheetOf s .head e → Goes s e
 
-pub top-rank : (s : List ℤ) (e : ℕ) → topKey s e / 2 ≡ rank (topOf (edgeAt s e))
+top-rank : (s : List ℤ) (e : ℕ) → topKey s e / 2 ≡ rank (topOf (edgeAt s e))
 unfolding topKey
 top-rank s e = omega (arith, bit-le (isUp (edgeAt s e)))
 
-pub bottom-rank : (s : List ℤ) (e : ℕ) → bottomKey s e / 2 ≡ rank (bottomOf (edgeAt s e))
-unfolding bottomKey
-bottom-rank s e = omega (arith, bit-le (isUp (edgeAt s e)))
+-- a key put together from what was read
+module _ (s : List ℤ) (e : ℕ) {edge : Edge} (read : edge ≡ edgeAt s e) {p : Point} {way : Bool} (up : way ≡ isUp edge) where
+  pub top-key-told : p ≡ topOf edge → 2 * rank p + bit way ≡ topKey s e
+  unfolding topKey
+  top-key-told q = rw (up, q, read)
+
+  pub bottom-key-told : p ≡ bottomOf edge → 2 * rank p + bit way ≡ bottomKey s e
+  unfolding bottomKey
+  bottom-key-told q = rw (up, q, read)
 
 module _ {s : List ℤ} {n : ℕ} (F : Faultless s n) where
   pub tail-in : (e : ℕ) → e < n → inRange (edgeAt s e .tail) ≡ true
@@ -81,10 +88,17 @@ module _ {s : List ℤ} {n : ℕ} (F : Faultless s n) where
   tops-rise a zero l h = let q : a ≡ 0 = omega arith in omega (arith, ap (topKey s) q)
   tops-rise a (suc b) l h = ⊎-elim (λ t. omega (arith, tops-rise a b (omega arith) (omega arith), rises b h)) (λ t. let q : a ≡ suc b = omega arith in omega (arith, ap (topKey s) q)) (lt-or-le a (suc b))
 
-  -- a top compared with a point, by keys
-  pub top-below : (e : ℕ) → e < n → (p : Point) → inRange p ≡ true → isBelow (topOf (edgeAt s e)) p ≡ ltb (topKey s e / 2) (rank p)
-  top-below e l p h = rank-below _ p (top-in e l) h ∙ ap (λ (r : ℕ). ltb r (rank p)) (sym (top-rank s e))
+  pub top-small : (e : ℕ) → e < n → topKey s e / 2 < 4000004000001
+  top-small e l = omega (arith, top-rank s e, rank-small (topOf (edgeAt s e)) (top-in e l))
 
+  pub bottom-under-top : (e : ℕ) → e < n → bottomKey s e / 2 < topKey s e / 2
+  bottom-under-top e l = by (goes e l)
+    where
+      by : Goes s e → bottomKey s e / 2 < topKey s e / 2
+      by (up h t b) = omega arith
+      by (down h t b) = omega arith
+
+  -- a top compared with a point, by keys
   pub top-at : (e : ℕ) → e < n → (p : Point) → inRange p ≡ true → (u : Bool) → hasTop (edgeAt s e) p u ≡ eqb (topKey s e) (2 * rank p + bit u)
   unfolding hasTop topKey
   top-at e l p h u = ap (λ (b : Bool). Bool·beq (isUp (edgeAt s e)) u && b) (rank-same _ p (top-in e l) h) ∙ key-same (rank (topOf (edgeAt s e))) (rank p) (isUp (edgeAt s e)) u

@@ -33,8 +33,8 @@ module _ {test : ℕ → Bool} {place : ℕ → ℕ} {n : ℕ} where
       (true-or-false (test m))
 
   -- as the code chooses and compares
-  pub least-chosen : {m r e x y : ℕ} {t : Bool} → m < n → t ≡ test m → e ≡ place m → x ≡ cond t e n → y ≡ min r x → Least test place n m r → Least test place n (m + 1) y
-  least-chosen {m} {r} l qt qe qx qy a = rw (qy, qx, qt, qe) (least-more l a)
+  pub least-chosen : {m r x y : ℕ} {t : Bool} → m < n → t ≡ test m → x ≡ cond t (place m) n → y ≡ min r x → Least test place n m r → Least test place n (m + 1) y
+  least-chosen {m} {r} l qt qx qy a = rw (qy, qx, qt) (least-more l a)
 
   pub least-all : {m r : ℕ} → n ≤ m → Least test place n m r → Least test place n n r
   least-all l a = record { within = a .within; some = a .some; under = λ k h. a .under k (omega arith) }

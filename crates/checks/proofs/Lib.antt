@@ -1,3 +1,4 @@
+-- The laws behind the checks, each after those that it rests on.
 pub mod EdgeFaults
 pub mod Keys
 pub mod InOrder
@@ -6,6 +7,7 @@ pub mod SameKind
 pub mod Words
 pub mod Numbers
 pub mod Repeating
+pub mod Gathering
 pub mod Walking
 pub mod Answering
 pub mod AnswerSheet

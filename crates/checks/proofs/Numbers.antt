@@ -1,28 +1,23 @@
 -- 9 by keys: how many edges arrive at a place and leave it. An up edge arrives with its top and leaves with its bottom, a down edge the other way
--- round; where no edge repeats another, each of the four kinds is there once or not at all.
+-- round.
 use mathlib.Core.Path.{_≡_, sym, ap, _∙_}
-use mathlib.Core.Bool.{Bool, false, not, _||_}
+use mathlib.Core.Bool.{not, _||_}
 use mathlib.Core.List.{List}
 use Prim.Native.Nat.{ℕ, _+_, _*_, _/_, _<_}
 use native.Mathlib.Omega.{arith}
 use lib.Dec.{eqb}
 use lib.IntN.{ℤ}
-use borrow.Author.Tests.{ne-eqb, eqb-true}
-use Rattle.laws.specs.Counting.{bit, count, some-below}
+use borrow.Author.Tests.{ne-eqb}
+use Rattle.laws.specs.Counting.{bit, count}
 use Rattle.laws.proofs.Tests.{or-swap, eqb-agree}
 use Rattle.laws.proofs.Either.{count-either}
-use Rattle.laws.proofs.Once.{count-once}
 use Rattle.sheet.specs.Edges.{sheetOf}
 use Rattle.sheet.specs.Kinds.{arriving, leaving, numberAt}
-use Rattle.sheet.specs.Answers.{differ, uneven, repeats}
+use Rattle.sheet.specs.Answers.{differ, uneven}
 use Rattle.checks.specs.Faults.{Faultless}
 use Rattle.checks.specs.Keys.{topKey, bottomKey}
+use Rattle.checks.specs.Meetings.{keysAt}
 use Rattle.checks.proofs.Keys.{Goes, up, down, goes}
-use Rattle.checks.proofs.SameKind.{tops-differ, bottoms-differ}
-
--- whether one of n keys is this one
-abbrev pub has : (ℕ → ℕ) → ℕ → ℕ → Bool
-has t n k = some-below (λ e. eqb (t e) k) n
 
 module _ (s : List ℤ) (e : ℕ) where
   arrives : (p : ℕ) → Goes s e → bit (eqb (sheetOf s .head e) p) ≡ bit (eqb (topKey s e) (2 * p + 1)) + bit (eqb (bottomKey s e) (2 * p))
@@ -48,25 +43,15 @@ module _ {s : List ℤ} {n : ℕ} (F : Faultless s n) where
   pub uneven-ends : (e : ℕ) → e < n → uneven (sheetOf s) e ≡ (differ (sheetOf s) (topKey s e / 2) || differ (sheetOf s) (bottomKey s e / 2))
   uneven-ends e l = ends-uneven s e (goes F e l)
 
-  module _ (once : (e : ℕ) → e < n → repeats (sheetOf s) e ≡ false) (p : ℕ) where
-    top-once : (k : ℕ) → count (λ e. eqb (topKey s e) k) n ≡ bit (has (topKey s) n k)
-    top-once k = count-once _ n (λ i j il jl a b. tops-differ F once i j il jl (eqb-true _ _ a ∙ sym (eqb-true _ _ b)))
-
-    bottom-once : (k : ℕ) → count (λ e. eqb (bottomKey s e) k) n ≡ bit (has (bottomKey s) n k)
-    bottom-once k = count-once _ n (λ i j il jl a b. bottoms-differ F once i j il jl (eqb-true _ _ a ∙ sym (eqb-true _ _ b)))
-
-    arriving-is : numberAt (sheetOf s) arriving p ≡ bit (has (topKey s) n (2 * p + 1)) + bit (has (bottomKey s) n (2 * p))
+  module _ (p : ℕ) where
+    arriving-is : numberAt (sheetOf s) arriving p ≡ keysAt (topKey s) (2 * p + 1) n + keysAt (bottomKey s) (2 * p) n
     unfolding numberAt sheetOf
-    arriving-is =
-        let c = count-either (λ e. eqb (topKey s e) (2 * p + 1)) (λ e. eqb (bottomKey s e) (2 * p)) (λ e. eqb (sheetOf s .head e) p) n (λ e l. arrives s e p (goes F e l)) in
-        ap (count (λ e. eqb (sheetOf s .head e) p)) (sym (F .all)) ∙ omega (arith, c, top-once (2 * p + 1), bottom-once (2 * p))
+    arriving-is = ap (count (λ e. eqb (sheetOf s .head e) p)) (sym (F .all)) ∙ count-either (λ e. eqb (topKey s e) (2 * p + 1)) (λ e. eqb (bottomKey s e) (2 * p)) (λ e. eqb (sheetOf s .head e) p) n (λ e l. arrives s e p (goes F e l))
 
-    leaving-is : numberAt (sheetOf s) leaving p ≡ bit (has (topKey s) n (2 * p)) + bit (has (bottomKey s) n (2 * p + 1))
+    leaving-is : numberAt (sheetOf s) leaving p ≡ keysAt (topKey s) (2 * p) n + keysAt (bottomKey s) (2 * p + 1) n
     unfolding numberAt sheetOf
-    leaving-is =
-        let c = count-either (λ e. eqb (topKey s e) (2 * p)) (λ e. eqb (bottomKey s e) (2 * p + 1)) (λ e. eqb (sheetOf s .tail e) p) n (λ e l. leaves s e p (goes F e l)) in
-        ap (count (λ e. eqb (sheetOf s .tail e) p)) (sym (F .all)) ∙ omega (arith, c, top-once (2 * p), bottom-once (2 * p + 1))
+    leaving-is = ap (count (λ e. eqb (sheetOf s .tail e) p)) (sym (F .all)) ∙ count-either (λ e. eqb (topKey s e) (2 * p)) (λ e. eqb (bottomKey s e) (2 * p + 1)) (λ e. eqb (sheetOf s .tail e) p) n (λ e l. leaves s e p (goes F e l))
 
-    pub differ-by-kinds : not (eqb (bit (has (topKey s) n (2 * p + 1)) + bit (has (bottomKey s) n (2 * p))) (bit (has (topKey s) n (2 * p)) + bit (has (bottomKey s) n (2 * p + 1)))) ≡ differ (sheetOf s) p
+    pub differ-by-keys : not (eqb (keysAt (topKey s) (2 * p + 1) n + keysAt (bottomKey s) (2 * p) n) (keysAt (topKey s) (2 * p) n + keysAt (bottomKey s) (2 * p + 1) n)) ≡ differ (sheetOf s) p
     unfolding differ
-    differ-by-kinds = rw (arriving-is, leaving-is)
+    differ-by-keys = rw (arriving-is, leaving-is)

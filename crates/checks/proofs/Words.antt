@@ -1,7 +1,7 @@
 -- The words of the bottoms, in order. A word gives its edge's key and place back. The words of one key stand together, by place, so that an earlier
--- edge has a word's key where the word before has it; and a key that some edge has is some word's.
+-- edge has a word's key where the word before has it; and a key is in as many words as edges have it.
 use mathlib.Core.Path.{_≡_, sym, ap, _∙_}
-use mathlib.Core.Bool.{Bool, true, false}
+use mathlib.Core.Bool.{true, false}
 use mathlib.Core.List.{List}
 use mathlib.Core.Logic.{⊎-elim}
 use Prim.Native.Nat.{ℕ, _+_, _-_, _*_, _/_, _%_, _≤_, _<_}
@@ -11,21 +11,16 @@ use lib.IntN.{ℤ}
 use lib.ListN.{length, getD, set}
 use lib.Seq.{getD-set-same, getD-set-other}
 use borrow.Author.Tests.{lt-ltb, ltb-true, eq-eqb, ne-eqb, eqb-true}
-use Rattle.laws.specs.Counting.{bit, some-below}
 use Rattle.laws.proofs.Deciding.{lt-or-le, true-or-false, not-both, both-true}
-use Rattle.laws.proofs.First.{some-below-true, below-some, below-none, none-below}
-use Rattle.sheet.specs.declared.Point.{Point}
-use Rattle.sheet.specs.declared.Edge.{Edge}
-use Rattle.sheet.specs.Points.{isUp, bottomOf}
-use Rattle.sheet.specs.Rank.{rank}
-use Rattle.sheet.specs.Edges.{edgeAt}
-use Rattle.sheet.proofs.Ranks.{rank-small}
+use Rattle.laws.proofs.Counting.{count-same}
+use Rattle.laws.proofs.First.{below-some, below-none}
+use Rattle.laws.proofs.Pigeonhole.{onto-count}
 use Rattle.sorting.specs.Sorted.{Sorted}
 use Rattle.sorting.proofs.Standing.{old-stands, new-stood, strictly-rising}
 use Rattle.checks.specs.Faults.{Faultless}
 use Rattle.checks.specs.Keys.{bottomKey, wordOf, keyIn, placeIn, Ordered}
+use Rattle.checks.specs.Meetings.{keysAt}
 use Rattle.checks.specs.Twins.{twin, nextTwin}
-use Rattle.checks.proofs.Keys.{bottom-in}
 
 module _ (s : List ℤ) (e : ℕ) (small : e < 4096) where
   word-key : wordOf s e / 4096 ≡ bottomKey s e
@@ -36,17 +31,10 @@ module _ (s : List ℤ) (e : ℕ) (small : e < 4096) where
   unfolding wordOf
   word-place = omega arith
 
--- a word is put together from what was read
-module _ (s : List ℤ) (e : ℕ) {edge : Edge} {low : Point} {r : ℕ} (read : edge ≡ edgeAt s e) (bottom : low ≡ bottomOf edge) (ranked : r ≡ rank low) where
-  rank-told : r ≡ rank (bottomOf (edgeAt s e))
-  rank-told = ranked ∙ ap rank (bottom ∙ ap bottomOf read)
-
-  pub rank-fits : {n : ℕ} → Faultless s n → e < n → r < 4000004000001
-  rank-fits F l = omega (arith, rank-told, rank-small _ (bottom-in F e l))
-
-  pub word-told : {way : Bool} {u : ℕ} → way ≡ isUp edge → u ≡ bit way → (2 * r + u) * 4096 + e ≡ wordOf s e
-  unfolding wordOf bottomKey
-  word-told {way} {u} w b = let q : u ≡ bit (isUp (edgeAt s e)) = b ∙ ap bit (w ∙ ap isUp read) in omega (arith, rank-told, q)
+-- a word is put together from the key
+pub word-told : (s : List ℤ) (e : ℕ) {k : ℕ} → k ≡ bottomKey s e → k * 4096 + e ≡ wordOf s e
+unfolding wordOf
+word-told s e q = omega arith
 
 -- one more word packed
 pub packed-more : (s : List ℤ) (words : List ℕ) (e w : ℕ) → ((k : ℕ) → k < e → getD words k 0 ≡ wordOf s k) → w ≡ wordOf s e → e < length words → (k : ℕ) → k < e + 1 → getD (set words e w) k 0 ≡ wordOf s k
@@ -81,12 +69,6 @@ module _ {s : List ℤ} {words : List ℕ} {n : ℕ} (F : Faultless s n) (O : Or
   pub keys-rise : (a b : ℕ) → a ≤ b → b < n → keyIn words a / 2 ≤ keyIn words b / 2
   keys-rise a b l h = let k : keyIn words a ≤ keyIn words b = omega (arith, words-rise a b l h) in omega (arith, k)
 
-  pub keys-differ : ((a b : ℕ) → a < n → b < n → bottomKey s a ≡ bottomKey s b → a ≡ b) → (a b : ℕ) → a < n → b < n → keyIn words a ≡ keyIn words b → a ≡ b
-  keys-differ differ a b al bl q =
-      let p : placeIn words a ≡ placeIn words b = differ _ _ (O .held a al .0) (O .held b bl .0) (sym (key-at a al) ∙ q ∙ key-at b bl) in
-      let w : getD words a 0 ≡ getD words b 0 = omega (arith, p, q) in
-      ⊎-elim (λ l. absurd (omega (arith, w, O .rising a b l bl))) (λ l. ⊎-elim (λ m. absurd (omega (arith, w, O .rising b a m al))) (λ m. omega arith) (lt-or-le b a)) (lt-or-le a b)
-
   -- the word before has the key: its edge is an earlier one
   next-is-twin : (k : ℕ) → k < n → nextTwin (keyIn words) k ≡ true → twin (bottomKey s) (placeIn words k) ≡ true
   unfolding nextTwin twin
@@ -119,12 +101,6 @@ module _ {s : List ℤ} {words : List ℕ} {n : ℕ} (F : Faultless s n) (O : Or
   pub next-twin : (k : ℕ) → k < n → nextTwin (keyIn words) k ≡ twin (bottomKey s) (placeIn words k)
   next-twin k l = ⊎-elim (λ h. h ∙ sym (next-is-twin k l h)) (λ h. h ∙ sym (twin-is-next k l h)) (true-or-false (nextTwin (keyIn words) k))
 
-  -- whether some word has a key
-  pub some-word : (key : ℕ) → some-below (λ k. eqb (keyIn words k) key) n ≡ some-below (λ e. eqb (bottomKey s e) key) n
-  some-word key = ⊎-elim (λ h. h ∙ sym (yes h)) (λ h. h ∙ sym (no h)) (true-or-false (some-below (λ k. eqb (keyIn words k) key) n))
-    where
-      yes : some-below (λ k. eqb (keyIn words k) key) n ≡ true → some-below (λ e. eqb (bottomKey s e) key) n ≡ true
-      yes h = let v = some-below-true _ n h in below-some _ n (placeIn words (v .0)) (O .held (v .0) (v .1) .0) (eq-eqb _ _ (sym (key-at (v .0) (v .1)) ∙ eqb-true _ _ (v .2)))
-
-      no : some-below (λ k. eqb (keyIn words k) key) n ≡ false → some-below (λ e. eqb (bottomKey s e) key) n ≡ false
-      no h = below-none _ n (λ e l. ne-eqb _ _ (λ q. let v = place-onto e l in not-both (eq-eqb _ _ (key-at (v .0) (v .1) ∙ ap (bottomKey s) (v .2) ∙ q)) (none-below _ n h (v .0) (v .1))))
+  -- as many words as edges have a key
+  pub words-at : (key : ℕ) → keysAt (keyIn words) key n ≡ keysAt (bottomKey s) key n
+  words-at key = count-same _ _ n (λ k l. ap (λ (x : ℕ). eqb x key) (key-at k l)) ∙ onto-count (placeIn words) n place-onto (λ e. eqb (bottomKey s e) key)

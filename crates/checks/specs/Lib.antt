@@ -1,3 +1,4 @@
+-- The definitions of the checks.
 pub mod Faults
 pub mod Keys
 pub mod Twins

@@ -1,47 +1,66 @@
--- The walk that meets the places in rising order: how far it is, and what stands there.
+-- The walk that meets the places in rising order: what it gathers at a place, and what it goes by.
 use mathlib.Core.Path.{_≡_}
-use mathlib.Core.Bool.{Bool, false, _&&_, _||_}
+use mathlib.Core.Bool.{cond}
 use mathlib.Core.List.{List}
-use Prim.Native.Nat.{ℕ, _+_, _/_, _≤_, _<_}
+use Prim.Native.Nat.{ℕ, _+_, _-_, _*_, _/_, _%_, _≤_, _<_, min}
 use lib.Dec.{eqb, ltb}
 use lib.IntN.{ℤ}
 use lib.ListN.{length}
-use Rattle.sheet.specs.Edges.{sheetOf}
-use Rattle.sheet.specs.Answers.{repeats}
-use Rattle.checks.specs.declared.meetings.Walk.{Walk}
+use Rattle.laws.specs.Counting.{count}
+use Rattle.checks.specs.declared.meetings.Gathered.{Gathered}
 use Rattle.checks.specs.Faults.{Faultless}
-use Rattle.checks.specs.Keys.{topKey, keyIn, Ordered}
+use Rattle.checks.specs.Keys.{Ordered}
 
--- r is the first of n keys, from i on, whose rank is not below p
-pub record Reached (key : ℕ → ℕ) (n i p r : ℕ) : Type 0 where
-  pub within : r ≤ n
-  pub passed : (k : ℕ) → i ≤ k → k < r → key k / 2 < p
-  pub next : r < n → p ≤ key r / 2
-
--- number i is below n and its key is this one
-unfoldable pub standsAt : (ℕ → ℕ) → ℕ → ℕ → ℕ → Bool
-standsAt key n i k = ltb i n && eqb (key i) k
-
--- the same of number i or the next one
-abbrev pub standsThere : (ℕ → ℕ) → ℕ → ℕ → ℕ → Bool
-standsThere key n i k = standsAt key n i k || standsAt key n (i + 1) k
-
--- a list that passes 1 to 8, and the words of its bottoms
+-- a list that passes 1 to 7, and the words of its bottoms
 pub record Ready (s : List ℤ) (words : List ℕ) (n : ℕ) : Type 0 where
   pub faultless : Faultless s n
   pub ordered : Ordered s words n
   pub room : n ≤ length words
-  pub once : (e : ℕ) → e < n → repeats (sheetOf s) e ≡ false
 
--- what is passed lies below p
-pub record Behind (s : List ℤ) (words : List ℕ) (n : ℕ) (at : Walk) (p : ℕ) : Type 0 where
-  pub edge-in : at .edge ≤ n
-  pub word-in : at .word ≤ n
-  pub tops : (f : ℕ) → f < at .edge → topKey s f / 2 < p
-  pub bottoms : (k : ℕ) → k < at .word → keyIn words k / 2 < p
+-- above every key of an end
+abbrev pub noKey : ℕ
+noKey = 8796093022208
 
--- and what comes next does not
-pub record Met (s : List ℤ) (words : List ℕ) (n : ℕ) (at : Walk) (p : ℕ) : Type 0 where
-  pub behind : Behind s words n at p
-  pub edge-next : at .edge < n → p ≤ topKey s (at .edge) / 2
-  pub word-next : at .word < n → p ≤ keyIn words (at .word) / 2
+-- the key at i of n, and after the last one no key
+unfoldable pub keyFrom : (ℕ → ℕ) → ℕ → ℕ → ℕ
+keyFrom key n i = cond (ltb i n) (key i) noKey
+
+-- how many of the first i keys are this one
+abbrev pub keysAt : (ℕ → ℕ) → ℕ → ℕ → ℕ
+keysAt key k i = count (λ f. eqb (key f) k) i
+
+-- the key is that of the first end that is not passed
+pub record Next (key : ℕ → ℕ) (n : ℕ) (g : Gathered) : Type 0 where
+  pub within : g .past ≤ n
+  pub next : g .key ≡ keyFrom key n (g .past)
+
+-- no number is out of bounds
+pub record Small (g : Gathered) : Type 0 where
+  pub past : g .past ≤ 4096
+  pub ups : g .ups ≤ 4096
+  pub downs : g .downs ≤ 4096
+
+-- nothing gathered: no edge is below n
+abbrev pub noneYet : ℕ → ℕ → ℕ → Gathered
+noneYet past key n = record { ups = 0; downs = 0; least = n; past = past; key = key }
+
+-- an edge more is gathered, up where the key is odd
+abbrev pub oneMore : Gathered → ℕ → ℕ → Gathered
+oneMore g e next = record { ups = g .ups + g .key % 2; downs = g .downs + (1 - g .key % 2); least = min (g .least) e; past = g .past + 1; key = next }
+
+abbrev pub leastUneven : Gathered → Gathered → ℕ → ℕ
+leastUneven tops bottoms n = cond (eqb (tops .ups + bottoms .downs) (tops .downs + bottoms .ups)) n (min (tops .least) (bottoms .least))
+
+-- of n ends, by key and edge, those from i on that are gathered have rank p: how many are up and how many down, and their least edge
+pub record Gathers (key edge : ℕ → ℕ) (n i p : ℕ) (g : Gathered) : Type 0 where
+  pub on : Next key n g
+  pub from : i ≤ g .past
+  pub here : (f : ℕ) → i ≤ f → f < g .past → key f / 2 ≡ p
+  pub up : keysAt key (2 * p + 1) (g .past) ≡ keysAt key (2 * p + 1) i + g .ups
+  pub down : keysAt key (2 * p) (g .past) ≡ keysAt key (2 * p) i + g .downs
+  pub under : (f : ℕ) → i ≤ f → f < g .past → g .least ≤ edge f
+  pub some : g .least < n → (f : ℕ) × (i ≤ f) × (f < g .past) × (edge f ≡ g .least)
+
+-- all of them: the next end has another rank
+abbrev pub GathersAll : (key edge : ℕ → ℕ) (n i p : ℕ) (g : Gathered) → Type 0
+GathersAll key edge n i p g = Gathers key edge n i p g × (g .key / 2 ≡ p → ⊥)

@@ -28,8 +28,7 @@ fn word(edges: &[i32], n: usize, e: usize) -> u64
     ensures { λ r. ⌜ r ≡ wordOf (now (edges .entry)) e ⌝ }
 {
     let edge = Edge::at(edges, e);
-    let rank = edge.bottom().rank();
-    (2 * rank + ends::number(edge.is_up())) * PLACES + (e as u64)
+    ends::key(edge.bottom(), edge.is_up()) * PLACES + (e as u64)
 }
 
 fn pack_bottoms(edges: &[i32], words: &mut [u64], n: usize)

@@ -1,6 +1,6 @@
--- `checks::check_kinds` meets its contract. Where 8 finds no edge, no edge repeats another, which is what 9 asks.
+-- `checks::check_kinds` meets its contract: 8 is answered before 9.
 use borrow.Author.Needs.{needs}
-use Rattle.checks.proofs.Answering.{none-found, on-repeat, on-uneven, on-passed}
+use Rattle.checks.proofs.Answering.{on-repeat, on-uneven, on-passed}
 use Rattle.checks.proofs.check_kinds.Statement.{statement}
 use Rattle.checks.proofs.check_kinds.Tie as tie
 
@@ -30,7 +30,6 @@ first-uneven-requires c κs = record {
   faultless = c .before .before .before .before .before .before .before .pre;
   ordered = c .before .before .before .before .before .order-bottoms .ensures;
   room = search needs;
-  once = none-found _ _ _ (c .before .before .first-repeat .ensures) (c .before .if1 .left);
 }
 
 cast-t16 : tie.Need-cast-t16

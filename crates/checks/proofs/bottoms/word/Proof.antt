@@ -1,8 +1,9 @@
--- `checks::bottoms::word` meets its contract. A rank in the range has 42 bits, so nothing wraps.
-use Prim.Native.Nat.{_<_}
-use native.Mathlib.Omega.{arith}
+-- `checks::bottoms::word` meets its contract. A key has 43 bits, so nothing wraps.
+use mathlib.Core.Path.{ap, _∙_}
 use borrow.Author.Needs.{needs}
-use Rattle.checks.proofs.Words.{rank-fits, word-told}
+use Rattle.sheet.specs.Points.{inRange, bottomOf}
+use Rattle.checks.proofs.Keys.{bottom-in, bottom-key-told}
+use Rattle.checks.proofs.Words.{word-told}
 use Rattle.checks.proofs.bottoms.word.Statement.{statement}
 use Rattle.checks.proofs.bottoms.word.Tie as tie
 
@@ -12,36 +13,22 @@ at-requires c κs = search needs
 bottom-requires : tie.Need-bottom-requires
 bottom-requires c κs = search needs
 
-rank-requires : tie.Need-rank-requires
-rank-requires c κs = search needs
-
--- the bottom lies in the range
-small : (c : tie.After-rank) → c .rank .result < 4000004000001
-small c =
-    let a = c .before .before .before in
-    rank-fits (a .args .edges .now) (a .args .e) (c .before .before .at .ensures) (c .before .bottom .ensures) (c .rank .ensures) (a .pre .0) (search needs)
-
-mul-result : tie.Need-mul-result
-mul-result c = omega (arith, small c)
-
 is-up-requires : tie.Need-is-up-requires
 is-up-requires c κs = search needs
 
-number-requires : tie.Need-number-requires
-number-requires c κs = search needs
+key-requires : tie.Need-key-requires
+key-requires c κs = let a = c .before .before .before in
+    ap inRange (c .before .bottom .ensures ∙ ap bottomOf (c .before .before .at .ensures)) ∙ bottom-in (a .pre .0) (a .args .e) (search needs)
+
+mul-result : tie.Need-mul-result
+mul-result c = search needs
 
 add-result : tie.Need-add-result
-add-result c = omega (arith, small (c .before .before))
-
-mul-result-2 : tie.Need-mul-result-2
-mul-result-2 c = omega (arith, small (c .before .before))
-
-add-result-2 : tie.Need-add-result-2
-add-result-2 c = omega (arith, small (c .before .before))
+add-result c = search needs
 
 returns : tie.Need-returns
-returns c = let a = c .before .before .before .before .before .args in
-    word-told (a .edges .now) (a .e) (c .before .before .before .before .at .ensures) (c .before .before .before .bottom .ensures) (c .before .before .rank .ensures) (c .before .is-up .ensures) (c .number .ensures .0)
+returns c = let a = c .before .before .before .before .args in
+    word-told (a .edges .now) (a .e) (c .key .ensures .0 ∙ bottom-key-told (a .edges .now) (a .e) (c .before .before .before .at .ensures) (c .before .is-up .ensures) (c .before .before .bottom .ensures))
 
 pub word-spec : {M : Type 1} → statement M
 word-spec =
@@ -49,11 +36,8 @@ word-spec =
     (tie.spec
     at-requires
     bottom-requires
-    rank-requires
-    mul-result
     is-up-requires
-    number-requires
+    key-requires
+    mul-result
     add-result
-    mul-result-2
-    add-result-2
     returns)

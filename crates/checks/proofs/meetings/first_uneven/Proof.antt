@@ -1,23 +1,80 @@
--- `checks::meetings::first_uneven` meets its contract: the lower of the two is the first.
-use mathlib.Core.Path.{_∙_}
+-- `checks::meetings::first_uneven` meets its contract. The loop's invariant: of the ends passed the least edge at an uneven place is found. At each place
+-- a top or a bottom is passed, so those left become fewer.
+use mathlib.Core.Path.{ap, _∙_}
+use Prim.Native.Nat.{_+_, _-_, min}
 use borrow.Author.Needs.{needs}
-use Rattle.checks.proofs.Walking.{first-uneven-is}
+use Rattle.checks.proofs.Gathering.{gathers-small}
+use Rattle.checks.proofs.Walking.{Walked, walked-none, rank-fits, walked-less, walked-more, walked-all}
 use Rattle.checks.proofs.meetings.first_uneven.Statement.{statement}
 use Rattle.checks.proofs.meetings.first_uneven.Tie as tie
 
-first-uneven-top-requires : tie.Need-first-uneven-top-requires
-first-uneven-top-requires c κs = search needs
+abbrev Inv-loop : tie.InvT-loop
+Inv-loop edges words n least₀ tops₀ bottoms₀ least tops bottoms = Walked edges words n tops bottoms least
 
-first-uneven-bottom-requires : tie.Need-first-uneven-bottom-requires
-first-uneven-bottom-requires c κs = search needs
+abbrev μ-loop : tie.MeasureT-loop
+μ-loop edges words n least₀ tops₀ bottoms₀ least tops bottoms = (n - tops .past) + (n - bottoms .past)
 
-lower-of-requires : tie.Need-lower-of-requires
+top-key-requires : tie.Need-top-key-requires Inv-loop μ-loop
+top-key-requires c κs = search needs
+
+none-yet-requires : tie.Need-none-yet-requires Inv-loop μ-loop
+none-yet-requires c κs = search needs
+
+bottom-key-requires : tie.Need-bottom-key-requires Inv-loop μ-loop
+bottom-key-requires c κs = search needs
+
+none-yet-requires-2 : tie.Need-none-yet-requires-2 Inv-loop μ-loop
+none-yet-requires-2 c κs = search needs
+
+loop-holds : tie.Need-loop-holds Inv-loop μ-loop
+loop-holds c = walked-none (c .before .before .before .top-key .ensures) (c .before .before .none-yet .ensures) (c .before .bottom-key .ensures) (c .none-yet2 .ensures)
+
+lower-rank-requires : tie.Need-lower-rank-requires Inv-loop μ-loop
+lower-rank-requires c κs = search needs
+
+tops-at-requires : tie.Need-tops-at-requires Inv-loop μ-loop
+tops-at-requires c κs = let pre = c .before .before .before .before .before .before .before .before .before .pre in
+    let W = c .before .before .before .loop .inv in
+    (pre .faultless, W .top .on, rank-fits pre W (c .before .if1 .taken) (c .lower-rank .ensures))
+
+bottoms-at-requires : tie.Need-bottoms-at-requires Inv-loop μ-loop
+bottoms-at-requires c κs = let pre = c .before .before .before .before .before .before .before .before .before .before .pre in
+    let W = c .before .before .before .before .loop .inv in
+    (pre .room, pre .faultless .few, W .bottom .on, rank-fits pre W (c .before .before .if1 .taken) (c .before .lower-rank .ensures))
+
+least-uneven-requires : tie.Need-least-uneven-requires Inv-loop μ-loop
+least-uneven-requires c κs = let few = c .before .before .before .before .before .before .before .before .before .before .before .pre .faultless .few in
+    (gathers-small (c .before .tops-at .ensures .0) few, gathers-small (c .bottoms-at .ensures .0) few)
+
+lower-of-requires : tie.Need-lower-of-requires Inv-loop μ-loop
 lower-of-requires c κs = search needs
 
-returns : tie.Need-returns
-returns c = c .lower-of .ensures ∙ first-uneven-is (c .before .before .before .before .pre) (c .before .before .first-uneven-top .ensures) (c .before .first-uneven-bottom .ensures)
+loop-less : tie.Need-loop-less Inv-loop μ-loop
+loop-less c = walked-less (c .before .before .before .before .before .before .before .before .before .before .before .before .before .pre) (c .before .before .before .before .before .before .before .loop .inv) (c .before .before .before .before .before .if1 .taken) (c .before .before .before .before .lower-rank .ensures) (c .before .before .before .tops-at .ensures) (c .before .before .bottoms-at .ensures)
+
+loop-again : tie.Need-loop-again Inv-loop μ-loop
+loop-again c = let l = c .before .before .before .before .before .before .before .loop in
+    walked-more (c .before .before .before .before .before .before .before .before .before .before .before .before .before .pre) (l .inv) (c .before .before .before .before .before .if1 .taken) (c .before .before .before .before .lower-rank .ensures) (c .before .before .before .tops-at .ensures) (c .before .before .bottoms-at .ensures) (c .lower-of .ensures ∙ ap (min (l .least)) (c .before .least-uneven .ensures))
+
+returns : tie.Need-returns Inv-loop μ-loop
+returns c = walked-all (c .before .before .before .before .before .before .before .before .pre) (c .before .before .loop .inv) (c .if1 .left)
 
 pub first-uneven-spec : {M : Type 1} → statement M
 first-uneven-spec =
     tie.close
-    (tie.spec first-uneven-top-requires first-uneven-bottom-requires lower-of-requires returns)
+    (tie.spec
+    Inv-loop
+    μ-loop
+    top-key-requires
+    none-yet-requires
+    bottom-key-requires
+    none-yet-requires-2
+    loop-holds
+    lower-rank-requires
+    tops-at-requires
+    bottoms-at-requires
+    least-uneven-requires
+    lower-of-requires
+    loop-less
+    loop-again
+    returns)

@@ -48,7 +48,7 @@ loop-less c = search needs
 
 loop-again : tie.Need-loop-again Inv-loop μ-loop
 loop-again c = let l = c .before .before .before .before .before .loop in
-    (search needs, least-chosen (search needs) (next-told (c .before .before .before .before .before .before .before .args .words .now) (l .k) (search needs)) refl (c .before .twin-place .ensures) (c .lower-of .ensures) (l .inv .1))
+    (search needs, least-chosen (search needs) (next-told (c .before .before .before .before .before .before .before .args .words .now) (l .k) (search needs)) (c .before .twin-place .ensures) (c .lower-of .ensures) (l .inv .1))
 
 returns : tie.Need-returns Inv-loop μ-loop
 returns c = least-all (search needs) (c .before .loop .inv .1)
