@@ -1,5 +1,5 @@
 -- The pigeonhole: where each number that passes one test has a number of its own that passes another, no more pass the first than the second.
--- So a function on the numbers below n that hits none of them twice hits every one.
+-- So a function on the numbers below m that hits every number below m hits each once, and one that hits none twice hits every one.
 use mathlib.Core.Path.{_≡_, refl, sym, ap, _∙_, subst}
 use mathlib.Core.Bool.{Bool, true, false}
 use mathlib.Core.Logic.{⊎-elim}
@@ -8,7 +8,7 @@ use native.Mathlib.Omega.{arith}
 use lib.Dec.{eqb}
 use borrow.Author.Tests.{eqb-true, eqb-false}
 use Rattle.laws.specs.Counting.{bit, count, some-below}
-use Rattle.laws.proofs.Deciding.{true-or-false}
+use Rattle.laws.proofs.Deciding.{lt-or-le, eq-or-ne, true-or-false}
 use Rattle.laws.proofs.Counting.{without, without-there, count-without, count-all}
 use Rattle.laws.proofs.First.{some-below-true, none-below}
 
@@ -36,6 +36,47 @@ pigeon R own p q (suc n) m h = ⊎-elim
 -- the test that every number passes
 all : ℕ → Bool
 all x = true
+
+-- every number below m is hit
+module _ (f : ℕ → ℕ) (m : ℕ) (onto : (y : ℕ) → y < m → (x : ℕ) × (x < m) × (f x ≡ y)) where
+  no-spare : (z : ℕ) → z < m → ((y : ℕ) → y < m → (x : ℕ) × (x < m) × (x ≡ z → ⊥) × (f x ≡ y)) → ⊥
+  unfolding all
+  no-spare z l h = omega (arith, fewer, count-all all m (λ x t. refl), count-without all z m l refl)
+    where
+      holes : Holes (λ y x. f x ≡ y) all (without all z) m m
+      holes y yl t = let v = h y yl in (v .0, v .1, without-there all z (v .0) (v .2), v .3)
+
+      fewer : count all m ≤ count (without all z) m
+      fewer = pigeon (λ y x. f x ≡ y) (λ i j k a b. sym a ∙ b) all (without all z) m m holes
+
+  pub onto-below : (x : ℕ) → x < m → f x < m
+  onto-below x l = ⊎-elim (λ h. h) (λ h. absurd (no-spare x l (others h))) (lt-or-le (f x) m)
+    where
+      others : m ≤ f x → (y : ℕ) → y < m → (w : ℕ) × (w < m) × (w ≡ x → ⊥) × (f w ≡ y)
+      others h y yl = let v = onto y yl in (v .0, v .1, (λ q. omega (arith, v .2, ap f q)), v .2)
+
+  pub onto-once : (x z : ℕ) → x < m → z < m → f x ≡ f z → x ≡ z
+  onto-once x z xl zl e = ⊎-elim (λ h. h) (λ n. absurd (no-spare z zl (others n))) (eq-or-ne x z)
+    where
+      others : (x ≡ z → ⊥) → (y : ℕ) → y < m → (w : ℕ) × (w < m) × (w ≡ z → ⊥) × (f w ≡ y)
+      others n y yl =
+          let v = onto y yl in
+          ⊎-elim (λ q. (x, xl, n, e ∙ ap f (sym q) ∙ v .2)) (λ q. (v .0, v .1, q, v .2)) (eq-or-ne (v .0) z)
+
+  pub onto-count : (q : ℕ → Bool) → count (λ x. q (f x)) m ≡ count q m
+  onto-count q = omega (arith, at-least, at-most)
+    where
+      hit : Holes (λ y x. f x ≡ y) q (λ x. q (f x)) m m
+      hit y l t = let v = onto y l in (v .0, v .1, ap q (v .2) ∙ t, v .2)
+
+      at-least : count q m ≤ count (λ x. q (f x)) m
+      at-least = pigeon (λ y x. f x ≡ y) (λ i j k a b. sym a ∙ b) q (λ x. q (f x)) m m hit
+
+      once : (i j k : ℕ) → (i < m) × (f i ≡ k) → (j < m) × (f j ≡ k) → i ≡ j
+      once i j k (il, a) (jl, b) = onto-once i j il jl (a ∙ sym b)
+
+      at-most : count (λ x. q (f x)) m ≤ count q m
+      at-most = pigeon (λ x y. (x < m) × (f x ≡ y)) once (λ x. q (f x)) q m m (λ x l t. (f x, onto-below x l, t, (l, refl)))
 
 -- no number below n is hit twice
 module _ (f : ℕ → ℕ) (n : ℕ) (into : (i : ℕ) → i < n → f i < n) (once : (i j : ℕ) → i < n → j < n → f i ≡ f j → i ≡ j) where

@@ -16,17 +16,8 @@ returns-3 c = on-polygons _ _ _ _ (c .before .before .if1 .left) (c .before .if2
 returns-4 : tie.Need-returns-4
 returns-4 c = on-sequences _ _ _ _ (c .before .before .before .if1 .left) (c .before .before .if2 .left) (c .before .if3 .left) (c .if4 .taken)
 
-mul-if5 : tie.Need-mul-if5
-mul-if5 c = search needs
-
 returns-5 : tie.Need-returns-5
 returns-5 c = on-journal _ _ _ _ (c .before .before .before .before .if1 .left) (c .before .before .before .if2 .left) (c .before .before .if3 .left) (c .before .if4 .left) (c .if5 .taken)
-
-first-fault-requires : tie.Need-first-fault-requires
-first-fault-requires c κs = search needs
-
-fault-of-requires : tie.Need-fault-of-requires
-fault-of-requires c κs = search needs
 
 returns-6 : tie.Need-returns-6
 returns-6 c = let b = c .before .before .before in
@@ -48,10 +39,7 @@ check-spec =
     returns-2
     returns-3
     returns-4
-    mul-if5
-    returns-5
-    first-fault-requires
-    fault-of-requires
-    returns-6
+    (search needs) returns-5
+    (search needs) (search needs) returns-6
     check-kinds-requires
     returns-7)

@@ -7,24 +7,9 @@ use Rattle.checks.proofs.Words.{word-told}
 use Rattle.checks.proofs.bottoms.word.Statement.{statement}
 use Rattle.checks.proofs.bottoms.word.Tie as tie
 
-at-requires : tie.Need-at-requires
-at-requires c κs = search needs
-
-bottom-requires : tie.Need-bottom-requires
-bottom-requires c κs = search needs
-
-is-up-requires : tie.Need-is-up-requires
-is-up-requires c κs = search needs
-
 key-requires : tie.Need-key-requires
 key-requires c κs = let a = c .before .before .before in
     ap inRange (c .before .bottom .ensures ∙ ap bottomOf (c .before .before .at .ensures)) ∙ bottom-in (a .pre .0) (a .args .e) (search needs)
-
-mul-result : tie.Need-mul-result
-mul-result c = search needs
-
-add-result : tie.Need-add-result
-add-result c = search needs
 
 returns : tie.Need-returns
 returns c = let a = c .before .before .before .before .args in
@@ -33,11 +18,4 @@ returns c = let a = c .before .before .before .before .args in
 pub word-spec : {M : Type 1} → statement M
 word-spec =
     tie.close
-    (tie.spec
-    at-requires
-    bottom-requires
-    is-up-requires
-    key-requires
-    mul-result
-    add-result
-    returns)
+    (tie.spec (search needs) (search needs) (search needs) key-requires (search needs) (search needs) returns)

@@ -6,17 +6,11 @@ use Rattle.sheet.proofs.Ranks.{rank-small}
 use Rattle.checks.proofs.ends.key.Statement.{statement}
 use Rattle.checks.proofs.ends.key.Tie as tie
 
-rank-requires : tie.Need-rank-requires
-rank-requires c κs = search needs
-
 small : (c : tie.After-rank) → c .rank .result < 4000004000001
 small c = omega (arith, c .rank .ensures, rank-small (c .before .args .end) (c .before .pre))
 
 mul-result : tie.Need-mul-result
 mul-result c = omega (arith, small c)
-
-number-requires : tie.Need-number-requires
-number-requires c κs = search needs
 
 add-result : tie.Need-add-result
 add-result c = omega (arith, small (c .before))
@@ -25,4 +19,4 @@ returns : tie.Need-returns
 returns c = (omega (arith, c .before .rank .ensures, c .number .ensures), omega (arith, small (c .before), c .number .ensures))
 
 pub key-spec : {M : Type 1} → statement M
-key-spec = tie.close (tie.spec rank-requires mul-result number-requires add-result returns)
+key-spec = tie.close (tie.spec (search needs) mul-result (search needs) add-result returns)

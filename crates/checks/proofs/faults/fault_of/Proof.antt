@@ -4,21 +4,6 @@ use Rattle.checks.proofs.EdgeFaults.{past-told, equal-told}
 use Rattle.checks.proofs.faults.fault_of.Statement.{statement}
 use Rattle.checks.proofs.faults.fault_of.Tie as tie
 
-at-requires : tie.Need-at-requires
-at-requires c κs = search needs
-
-past-range-requires : tie.Need-past-range-requires
-past-range-requires c κs = search needs
-
-equal-ends-requires : tie.Need-equal-ends-requires
-equal-ends-requires c κs = search needs
-
-cast-first-refusal : tie.Need-cast-first-refusal
-cast-first-refusal c = search needs
-
-first-refusal-requires : tie.Need-first-refusal-requires
-first-refusal-requires c κs = search needs
-
 returns : tie.Need-returns
 returns c = let a = c .before .before .before .before .args in
     let read = c .before .before .before .at .ensures in
@@ -27,10 +12,4 @@ returns c = let a = c .before .before .before .before .args in
 pub fault-of-spec : {M : Type 1} → statement M
 fault-of-spec =
     tie.close
-    (tie.spec
-    at-requires
-    past-range-requires
-    equal-ends-requires
-    cast-first-refusal
-    first-refusal-requires
-    returns)
+    (tie.spec (search needs) (search needs) (search needs) (search needs) (search needs) returns)

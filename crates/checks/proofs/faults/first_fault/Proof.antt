@@ -21,25 +21,10 @@ loop-holds : tie.Need-loop-holds Inv-loop μ-loop
 unfolding topBefore
 loop-holds c = (search needs, refl, none-yet _)
 
-at-requires : tie.Need-at-requires Inv-loop μ-loop
-at-requires c κs = search needs
-
-has-fault-requires : tie.Need-has-fault-requires Inv-loop μ-loop
-has-fault-requires c κs = search needs
-
 returns : tie.Need-returns Inv-loop μ-loop
 returns c = let a = c .before .before .before .before .before .args in
     let l = c .before .before .before .before .loop in
     found-first _ (l .inv .2) (search needs) (fault-told (a .edges .now) (l .e) (c .before .before .at .ensures) (l .inv .1) (c .before .has-fault .ensures) ∙ c .if1 .taken)
-
-top-requires : tie.Need-top-requires Inv-loop μ-loop
-top-requires c κs = search needs
-
-add-e : tie.Need-add-e Inv-loop μ-loop
-add-e c = search needs
-
-loop-less : tie.Need-loop-less Inv-loop μ-loop
-loop-less c = search needs
 
 loop-again : tie.Need-loop-again Inv-loop μ-loop
 loop-again c = let a = c .before .before .before .before .before .before .args in
@@ -56,11 +41,6 @@ first-fault-spec =
     Inv-loop
     μ-loop
     loop-holds
-    at-requires
-    has-fault-requires
-    returns
-    top-requires
-    add-e
-    loop-less
-    loop-again
+    (search needs) (search needs) returns
+    (search needs) (search needs) (search needs) loop-again
     returns-2)

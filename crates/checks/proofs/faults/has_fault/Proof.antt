@@ -7,25 +7,13 @@ use Rattle.checks.specs.Faults.{faultAfter}
 use Rattle.checks.proofs.faults.has_fault.Statement.{statement}
 use Rattle.checks.proofs.faults.has_fault.Tie as tie
 
-past-range-requires : tie.Need-past-range-requires
-past-range-requires c κs = search needs
-
 returns : tie.Need-returns
 unfolding faultAfter
 returns c = rw (sym (c .before .past-range .ensures) ∙ c .if1 .taken)
 
-equal-ends-requires : tie.Need-equal-ends-requires
-equal-ends-requires c κs = search needs
-
 returns-2 : tie.Need-returns-2
 unfolding faultAfter
 returns-2 c = rw (sym (c .before .before .before .past-range .ensures) ∙ c .before .before .if1 .left, sym (c .before .equal-ends .ensures) ∙ c .if2 .taken)
-
-top-requires : tie.Need-top-requires
-top-requires c κs = search needs
-
-top-falls-requires : tie.Need-top-falls-requires
-top-falls-requires c κs = search needs
 
 returns-3 : tie.Need-returns-3
 unfolding faultAfter
@@ -36,11 +24,4 @@ returns-3 c = let before = c .before .before .before .before .before .before .ar
 pub has-fault-spec : {M : Type 1} → statement M
 has-fault-spec =
     tie.close
-    (tie.spec
-    past-range-requires
-    returns
-    equal-ends-requires
-    returns-2
-    top-requires
-    top-falls-requires
-    returns-3)
+    (tie.spec (search needs) returns (search needs) returns-2 (search needs) (search needs) returns-3)

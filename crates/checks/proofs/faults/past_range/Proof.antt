@@ -6,12 +6,6 @@ use Rattle.checks.specs.Faults.{endPastRange}
 use Rattle.checks.proofs.faults.past_range.Statement.{statement}
 use Rattle.checks.proofs.faults.past_range.Tie as tie
 
-in-range-requires : tie.Need-in-range-requires
-in-range-requires c κs = search needs
-
-in-range-requires-2 : tie.Need-in-range-requires-2
-in-range-requires-2 c κs = search needs
-
 returns : tie.Need-returns
 unfolding endPastRange
 returns c = rw (sym (c .before .before .in-range .ensures) ∙ c .before .if1 .taken) (ap not (c .in-range2 .ensures))
@@ -21,4 +15,4 @@ unfolding endPastRange
 returns-2 c = rw (sym (c .before .in-range .ensures) ∙ c .if1 .left)
 
 pub past-range-spec : {M : Type 1} → statement M
-past-range-spec = tie.close (tie.spec in-range-requires in-range-requires-2 returns returns-2)
+past-range-spec = tie.close (tie.spec (search needs) (search needs) returns returns-2)

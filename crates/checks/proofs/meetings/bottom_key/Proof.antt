@@ -8,18 +8,9 @@ use Rattle.checks.proofs.meetings.bottom_key.Tie as tie
 returns : tie.Need-returns
 returns c = sym (key-past _ _ _ (c .if1 .taken))
 
-mul-key-of : tie.Need-mul-key-of
-mul-key-of c = search needs
-
-shared-slice-read-key-of : tie.Need-shared-slice-read-key-of
-shared-slice-read-key-of c = search needs
-
-key-of-requires : tie.Need-key-of-requires
-key-of-requires c κs = search needs
-
 returns-2 : tie.Need-returns-2
 returns-2 c = c .key-of .ensures ∙ sym (key-in _ _ _ (c .before .before .if1 .left))
 
 pub bottom-key-spec : {M : Type 1} → statement M
 bottom-key-spec =
-    tie.close (tie.spec returns mul-key-of shared-slice-read-key-of key-of-requires returns-2)
+    tie.close (tie.spec returns (search needs) (search needs) (search needs) returns-2)

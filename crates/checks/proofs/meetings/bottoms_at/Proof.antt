@@ -14,9 +14,6 @@ Inv-loop words n rank here₀ here = Gathers (keyIn words) (placeIn words) n (he
 abbrev μ-loop : tie.MeasureT-loop
 μ-loop words n rank here₀ here = n - here .past
 
-none-yet-requires : tie.Need-none-yet-requires Inv-loop μ-loop
-none-yet-requires c κs = search needs
-
 loop-holds : tie.Need-loop-holds Inv-loop μ-loop
 loop-holds c = gathers-none (c .before .before .pre .2) (c .none-yet .ensures)
 
@@ -30,14 +27,8 @@ mul-place-of c = omega (arith, there c, c .before .before .before .before .befor
 shared-slice-read-place-of : tie.Need-shared-slice-read-place-of Inv-loop μ-loop
 shared-slice-read-place-of c = omega (arith, there (c .before), c .before .before .before .before .before .before .pre .0)
 
-place-of-requires : tie.Need-place-of-requires Inv-loop μ-loop
-place-of-requires c κs = search needs
-
 add-bottom-key : tie.Need-add-bottom-key Inv-loop μ-loop
 add-bottom-key c = omega (arith, there (c .before .before), c .before .before .before .before .before .before .before .pre .1)
-
-bottom-key-requires : tie.Need-bottom-key-requires Inv-loop μ-loop
-bottom-key-requires c κs = search needs
 
 one-more-requires : tie.Need-one-more-requires Inv-loop μ-loop
 one-more-requires c κs = gathers-small (c .before .before .before .before .before .loop .inv) (c .before .before .before .before .before .before .before .before .pre .1)
@@ -57,14 +48,11 @@ bottoms-at-spec =
     (tie.spec
     Inv-loop
     μ-loop
-    none-yet-requires
-    loop-holds
+    (search needs) loop-holds
     mul-place-of
     shared-slice-read-place-of
-    place-of-requires
-    add-bottom-key
-    bottom-key-requires
-    one-more-requires
+    (search needs) add-bottom-key
+    (search needs) one-more-requires
     loop-less
     loop-again
     returns)

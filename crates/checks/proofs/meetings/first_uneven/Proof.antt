@@ -14,23 +14,8 @@ Inv-loop edges words n least₀ tops₀ bottoms₀ least tops bottoms = Walked e
 abbrev μ-loop : tie.MeasureT-loop
 μ-loop edges words n least₀ tops₀ bottoms₀ least tops bottoms = (n - tops .past) + (n - bottoms .past)
 
-top-key-requires : tie.Need-top-key-requires Inv-loop μ-loop
-top-key-requires c κs = search needs
-
-none-yet-requires : tie.Need-none-yet-requires Inv-loop μ-loop
-none-yet-requires c κs = search needs
-
-bottom-key-requires : tie.Need-bottom-key-requires Inv-loop μ-loop
-bottom-key-requires c κs = search needs
-
-none-yet-requires-2 : tie.Need-none-yet-requires-2 Inv-loop μ-loop
-none-yet-requires-2 c κs = search needs
-
 loop-holds : tie.Need-loop-holds Inv-loop μ-loop
 loop-holds c = walked-none (c .before .before .before .top-key .ensures) (c .before .before .none-yet .ensures) (c .before .bottom-key .ensures) (c .none-yet2 .ensures)
-
-lower-rank-requires : tie.Need-lower-rank-requires Inv-loop μ-loop
-lower-rank-requires c κs = search needs
 
 tops-at-requires : tie.Need-tops-at-requires Inv-loop μ-loop
 tops-at-requires c κs = let pre = c .before .before .before .before .before .before .before .before .before .pre in
@@ -45,9 +30,6 @@ bottoms-at-requires c κs = let pre = c .before .before .before .before .before 
 least-uneven-requires : tie.Need-least-uneven-requires Inv-loop μ-loop
 least-uneven-requires c κs = let few = c .before .before .before .before .before .before .before .before .before .before .before .pre .faultless .few in
     (gathers-small (c .before .tops-at .ensures .0) few, gathers-small (c .bottoms-at .ensures .0) few)
-
-lower-of-requires : tie.Need-lower-of-requires Inv-loop μ-loop
-lower-of-requires c κs = search needs
 
 loop-less : tie.Need-loop-less Inv-loop μ-loop
 loop-less c = walked-less (c .before .before .before .before .before .before .before .before .before .before .before .before .before .pre) (c .before .before .before .before .before .before .before .loop .inv) (c .before .before .before .before .before .if1 .taken) (c .before .before .before .before .lower-rank .ensures) (c .before .before .before .tops-at .ensures) (c .before .before .bottoms-at .ensures)
@@ -65,16 +47,10 @@ first-uneven-spec =
     (tie.spec
     Inv-loop
     μ-loop
-    top-key-requires
-    none-yet-requires
-    bottom-key-requires
-    none-yet-requires-2
-    loop-holds
-    lower-rank-requires
-    tops-at-requires
+    (λ c κs. search needs) (search needs) (search needs) (search needs) loop-holds
+    (search needs) tops-at-requires
     bottoms-at-requires
     least-uneven-requires
-    lower-of-requires
-    loop-less
+    (search needs) loop-less
     loop-again
     returns)

@@ -4,21 +4,12 @@ use borrow.Author.Tests.{eq-eqb, ne-eqb}
 use Rattle.checks.proofs.meetings.least_uneven.Statement.{statement}
 use Rattle.checks.proofs.meetings.least_uneven.Tie as tie
 
-add-arriving : tie.Need-add-arriving
-add-arriving c = search needs
-
-add-leaving : tie.Need-add-leaving
-add-leaving c = search needs
-
 returns : tie.Need-returns
 returns c = rw (eq-eqb _ _ (c .if1 .taken))
-
-lower-of-requires : tie.Need-lower-of-requires
-lower-of-requires c κs = search needs
 
 returns-2 : tie.Need-returns-2
 returns-2 c = rw (ne-eqb _ _ (c .before .if1 .left)) (c .lower-of .ensures)
 
 pub least-uneven-spec : {M : Type 1} → statement M
 least-uneven-spec =
-    tie.close (tie.spec add-arriving add-leaving returns lower-of-requires returns-2)
+    tie.close (tie.spec (search needs) (search needs) returns (search needs) returns-2)

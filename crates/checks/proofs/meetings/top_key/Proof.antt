@@ -11,15 +11,6 @@ use Rattle.checks.proofs.meetings.top_key.Tie as tie
 returns : tie.Need-returns
 returns c = sym (key-past _ _ _ (c .if1 .taken))
 
-at-requires : tie.Need-at-requires
-at-requires c κs = search needs
-
-top-requires : tie.Need-top-requires
-top-requires c κs = search needs
-
-is-up-requires : tie.Need-is-up-requires
-is-up-requires c κs = search needs
-
 key-requires : tie.Need-key-requires
 key-requires c κs = let a = c .before .before .before .before in
     ap inRange (c .before .top .ensures ∙ ap topOf (c .before .before .at .ensures)) ∙ top-in (a .pre) (a .args .i) (c .before .before .before .if1 .left)
@@ -31,4 +22,4 @@ returns-2 c = let a = c .before .before .before .before .before .args in
 pub top-key-spec : {M : Type 1} → statement M
 top-key-spec =
     tie.close
-    (tie.spec returns at-requires top-requires is-up-requires key-requires returns-2)
+    (tie.spec returns (search needs) (search needs) (search needs) key-requires returns-2)

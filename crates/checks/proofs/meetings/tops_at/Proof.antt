@@ -15,17 +15,11 @@ Inv-loop edges n rank here₀ here = Gathers (topKey edges) (λ e. e) n (here₀
 abbrev μ-loop : tie.MeasureT-loop
 μ-loop edges n rank here₀ here = n - here .past
 
-none-yet-requires : tie.Need-none-yet-requires Inv-loop μ-loop
-none-yet-requires c κs = search needs
-
 loop-holds : tie.Need-loop-holds Inv-loop μ-loop
 loop-holds c = gathers-none (c .before .pre .1) (c .none-yet .ensures)
 
 add-top-key : tie.Need-add-top-key Inv-loop μ-loop
 add-top-key c = omega (arith, c .before .before .before .before .pre .0 .few, c .before .before .loop .inv .on .within)
-
-top-key-requires : tie.Need-top-key-requires Inv-loop μ-loop
-top-key-requires c κs = search needs
 
 one-more-requires : tie.Need-one-more-requires Inv-loop μ-loop
 one-more-requires c κs = gathers-small (c .before .before .before .loop .inv) (c .before .before .before .before .before .pre .0 .few)
@@ -45,11 +39,9 @@ tops-at-spec =
     (tie.spec
     Inv-loop
     μ-loop
-    none-yet-requires
-    loop-holds
+    (search needs) loop-holds
     add-top-key
-    top-key-requires
-    one-more-requires
+    (λ c κs. search needs) one-more-requires
     loop-less
     loop-again
     returns)

@@ -19,33 +19,6 @@ loop-holds : tie.Need-loop-holds Inv-loop μ-loop
 unfolding nextTwin
 loop-holds c = (search needs, least-past refl least-none)
 
-sub-twin-place : tie.Need-sub-twin-place Inv-loop μ-loop
-sub-twin-place c = search needs
-
-mul-twin-place : tie.Need-mul-twin-place Inv-loop μ-loop
-mul-twin-place c = search needs
-
-shared-slice-read-twin-place : tie.Need-shared-slice-read-twin-place Inv-loop μ-loop
-shared-slice-read-twin-place c = search needs
-
-mul-twin-place-2 : tie.Need-mul-twin-place-2 Inv-loop μ-loop
-mul-twin-place-2 c = search needs
-
-shared-slice-read-twin-place-2 : tie.Need-shared-slice-read-twin-place-2 Inv-loop μ-loop
-shared-slice-read-twin-place-2 c = search needs
-
-twin-place-requires : tie.Need-twin-place-requires Inv-loop μ-loop
-twin-place-requires c κs = search needs
-
-lower-of-requires : tie.Need-lower-of-requires Inv-loop μ-loop
-lower-of-requires c κs = search needs
-
-add-k : tie.Need-add-k Inv-loop μ-loop
-add-k c = search needs
-
-loop-less : tie.Need-loop-less Inv-loop μ-loop
-loop-less c = search needs
-
 loop-again : tie.Need-loop-again Inv-loop μ-loop
 loop-again c = let l = c .before .before .before .before .before .loop in
     (search needs, least-chosen (search needs) (next-told (c .before .before .before .before .before .before .before .args .words .now) (l .k) (search needs)) (c .before .twin-place .ensures) (c .lower-of .ensures) (l .inv .1))
@@ -60,14 +33,5 @@ first-bottom-again-spec =
     Inv-loop
     μ-loop
     loop-holds
-    sub-twin-place
-    mul-twin-place
-    shared-slice-read-twin-place
-    mul-twin-place-2
-    shared-slice-read-twin-place-2
-    twin-place-requires
-    lower-of-requires
-    add-k
-    loop-less
-    loop-again
+    (search needs) (search needs) (search needs) (search needs) (search needs) (search needs) (search needs) (search needs) (search needs) loop-again
     returns)

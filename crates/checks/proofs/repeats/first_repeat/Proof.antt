@@ -5,15 +5,6 @@ use Rattle.checks.proofs.Repeating.{first-repeat-is}
 use Rattle.checks.proofs.repeats.first_repeat.Statement.{statement}
 use Rattle.checks.proofs.repeats.first_repeat.Tie as tie
 
-first-top-again-requires : tie.Need-first-top-again-requires
-first-top-again-requires c κs = search needs
-
-first-bottom-again-requires : tie.Need-first-bottom-again-requires
-first-bottom-again-requires c κs = search needs
-
-lower-of-requires : tie.Need-lower-of-requires
-lower-of-requires c κs = search needs
-
 returns : tie.Need-returns
 returns c = let pre = c .before .before .before .before .pre in
     c .lower-of .ensures ∙ first-repeat-is (pre .0) (pre .1) (c .before .before .first-top-again .ensures) (c .before .first-bottom-again .ensures)
@@ -21,4 +12,4 @@ returns c = let pre = c .before .before .before .before .pre in
 pub first-repeat-spec : {M : Type 1} → statement M
 first-repeat-spec =
     tie.close
-    (tie.spec first-top-again-requires first-bottom-again-requires lower-of-requires returns)
+    (tie.spec (λ c κs. search needs) (search needs) (search needs) returns)

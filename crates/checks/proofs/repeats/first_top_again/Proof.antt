@@ -20,17 +20,8 @@ abbrev μ-loop : tie.MeasureT-loop
 loop-holds : tie.Need-loop-holds Inv-loop μ-loop
 loop-holds c = (search needs, none-yet _)
 
-repeats-top-requires : tie.Need-repeats-top-requires Inv-loop μ-loop
-repeats-top-requires c κs = search needs
-
 returns : tie.Need-returns Inv-loop μ-loop
 returns c = found-first _ (c .before .before .before .loop .inv .1) (search needs) (sym (c .before .repeats-top .ensures) ∙ c .if1 .taken) ∙ first-near _ _ (tops-rise (c .before .before .before .before .pre))
-
-add-e : tie.Need-add-e Inv-loop μ-loop
-add-e c = search needs
-
-loop-less : tie.Need-loop-less Inv-loop μ-loop
-loop-less c = search needs
 
 loop-again : tie.Need-loop-again Inv-loop μ-loop
 loop-again c = (search needs, none-more _ (c .before .before .before .loop .inv .1) (sym (c .before .repeats-top .ensures) ∙ c .if1 .left))
@@ -45,9 +36,6 @@ first-top-again-spec =
     Inv-loop
     μ-loop
     loop-holds
-    repeats-top-requires
-    returns
-    add-e
-    loop-less
-    loop-again
+    (λ c κs. search needs) returns
+    (search needs) (search needs) loop-again
     returns-2)

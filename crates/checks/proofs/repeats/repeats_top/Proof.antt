@@ -11,24 +11,6 @@ use Rattle.checks.proofs.repeats.repeats_top.Tie as tie
 returns : tie.Need-returns
 returns c = sym (near-none _ _ (c .if1 .taken))
 
-at-requires : tie.Need-at-requires
-at-requires c κs = search needs
-
-top-requires : tie.Need-top-requires
-top-requires c κs = search needs
-
-is-up-requires : tie.Need-is-up-requires
-is-up-requires c κs = search needs
-
-sub-at : tie.Need-sub-at
-sub-at c = search needs
-
-at-requires-2 : tie.Need-at-requires-2
-at-requires-2 c κs = search needs
-
-has-top-requires : tie.Need-has-top-requires
-has-top-requires c κs = search needs
-
 -- what the edge before answered
 asked-first : (c : tie.After-has-top) → nextTwin (topKey (c .before .before .before .before .before .before .args .edges .now)) (c .before .before .before .before .before .before .args .e) ≡ c .has-top .result
 asked-first c =
@@ -41,15 +23,6 @@ returns-2 c = sym (near-yes _ _ (asked-first (c .before) ∙ c .if2 .taken))
 returns-3 : tie.Need-returns-3
 returns-3 c = sym (near-one _ _ (c .if3 .taken) (asked-first (c .before .before) ∙ c .before .if2 .left))
 
-sub-at-2 : tie.Need-sub-at-2
-sub-at-2 c = search needs
-
-at-requires-3 : tie.Need-at-requires-3
-at-requires-3 c κs = search needs
-
-has-top-requires-2 : tie.Need-has-top-requires-2
-has-top-requires-2 c κs = search needs
-
 returns-4 : tie.Need-returns-4
 returns-4 c = let b = c .before .before .before .before in
     let a = b .before .before .before .before .before .before in
@@ -60,15 +33,6 @@ repeats-top-spec =
     tie.close
     (tie.spec
     returns
-    at-requires
-    top-requires
-    is-up-requires
-    sub-at
-    at-requires-2
-    has-top-requires
-    returns-2
+    (search needs) (search needs) (search needs) (search needs) (search needs) (search needs) returns-2
     returns-3
-    sub-at-2
-    at-requires-3
-    has-top-requires-2
-    returns-4)
+    (search needs) (search needs) (search needs) returns-4)

@@ -5,15 +5,6 @@ use borrow.Author.Needs.{needs}
 use Rattle.checks.proofs.repeats.twin_place.Statement.{statement}
 use Rattle.checks.proofs.repeats.twin_place.Tie as tie
 
-key-of-requires : tie.Need-key-of-requires
-key-of-requires c κs = search needs
-
-key-of-requires-2 : tie.Need-key-of-requires-2
-key-of-requires-2 c κs = search needs
-
-place-of-requires : tie.Need-place-of-requires
-place-of-requires c κs = search needs
-
 returns : tie.Need-returns
 returns c = rw (eq-eqb _ _ (sym (c .before .before .before .key-of .ensures) ∙ c .before .if1 .taken ∙ c .before .before .key-of2 .ensures)) (c .place-of .ensures)
 
@@ -22,4 +13,4 @@ returns-2 c = rw (ne-eqb _ _ (λ e. c .if1 .left (c .before .before .key-of .ens
 
 pub twin-place-spec : {M : Type 1} → statement M
 twin-place-spec =
-    tie.close (tie.spec key-of-requires key-of-requires-2 place-of-requires returns returns-2)
+    tie.close (tie.spec (search needs) (search needs) (search needs) returns returns-2)
