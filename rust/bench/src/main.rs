@@ -11,16 +11,17 @@ mod timing;
 use std::env::consts::{ARCH, OS};
 use std::process::Command;
 
-use rivals::{Desk, Times};
+use rivals::{Desk, Desks, Times};
 use sheets::{Shape, SHAPES, SIZES};
 
 /// What the first table shows.
 const NUMBERING: &str = "\
-Numbering, in nanoseconds an edge, the best of many runs. Engine, witness and hash
-map check the same refusals; the engine and the witness clear and fill all that is
-lent, with as many rows as the sheet's peak. The witness's sweeps are timed once more
-without its checks. Growth is the engine's time an edge beside that of the shape's
-first line.
+Numbering, in nanoseconds an edge, the best of many runs over different sheets of a
+shape, in each size as many as have about 4,096 edges together; edges and peak are
+those of the first. Engine, witness and hash map check the same refusals; the engine
+and the witness clear and fill all that is lent, with as many rows as the sheet's
+peak. The witness's sweeps are timed once more without its checks. Growth is the
+engine's time an edge beside that of the shape's first line.
 
 | sheet | edges | peak | engine | witness | its sweeps | hash map | engine / witness | engine / its sweeps | engine / hash map | growth |
 |---|--:|--:|--:|--:|--:|--:|--:|--:|--:|--:|";
@@ -33,11 +34,13 @@ to 14.
 | sheet | edges | engine | witness | engine / witness | growth |
 |---|--:|--:|--:|--:|--:|";
 
-/// What was measured of one sheet.
+/// What was measured of a shape in one size: the edges and the peak of the first
+/// sheet, and the times for the edges of all.
 struct Measured {
     name: &'static str,
     edges: usize,
     peak: usize,
+    all: usize,
     times: Times,
 }
 
@@ -60,25 +63,23 @@ fn main() {
 /// A shape in all sizes.
 fn measure_shape(shape: &Shape) -> Vec<Measured> {
     let measure = |edges: &usize| {
-        let sheet = shape.sheet(*edges);
-        let rows = outline::rows_enough(&sheet);
-        let peak = Desk::new(sheet, rows).compare();
-        let mut desk = Desk::new(shape.sheet(*edges), peak);
-        desk.compare();
+        let mut desks = Desks::new(shape.sheets(*edges));
+        let (edges, peak) = desks.first();
         Measured {
             name: shape.name,
-            edges: desk.count(),
+            edges,
             peak,
-            times: desk.time(),
+            all: desks.count(),
+            times: desks.time(),
         }
     };
     SIZES.iter().map(measure).collect()
 }
 
 impl Measured {
-    /// A time for one of its edges.
+    /// A time for one of the edges.
     fn an_edge(&self, time: f64) -> f64 {
-        time / self.edges as f64
+        time / self.all as f64
     }
 }
 
@@ -122,7 +123,8 @@ fn measure_rows() {
     println!("| rows lent | engine | clearing them alone | the rest |");
     println!("|--:|--:|--:|--:|");
     for rows in [1_000, 1_000_000] {
-        let mut desk = Desk::new(SHAPES[0].sheet(SIZES[3]), rows);
+        let sheet = SHAPES[0].sheets(SIZES[3]).remove(0);
+        let mut desk = Desk::new(sheet, rows);
         desk.compare();
         let (engine, clearing) = (desk.time_engine(), desk.time_clearing());
         println!(

@@ -83,41 +83,10 @@ impl Desk {
         peak as usize
     }
 
-    /// Times all of it.
-    pub fn time(&mut self) -> Times {
-        Times {
-            engine: self.time_engine(),
-            witness: best(|| {
-                self.witness();
-            }),
-            sweeps: self.time_sweeps(),
-            hashed: best(|| {
-                self.hashed();
-            }),
-            turns: best(|| {
-                self.engine_turns();
-            }),
-            witness_turns: best(|| {
-                witness::turns(&self.polygons, &self.sequences, &mut self.turns);
-            }),
-        }
-    }
-
     /// Times the engine alone.
     pub fn time_engine(&mut self) -> f64 {
         best(|| {
             self.engine();
-        })
-    }
-
-    /// Times the witness's two sweeps on the list as edges.
-    fn time_sweeps(&self) -> f64 {
-        let edges = read_edges(&self.edges);
-        let rows = self.rows.len() / outline::NUMBERS_PER_ROW;
-        best(|| {
-            let swept = sweep_up(&edges, rows).expect("rows enough");
-            let numbering = sweep_down(&swept.records, edges.len());
-            assert_eq!(numbering.polygons.len(), edges.len());
         })
     }
 
@@ -161,6 +130,10 @@ impl Desk {
         outline::turns(&self.polygons, &self.sequences, &mut self.turns)
     }
 
+    fn witness_turns(&mut self) -> witness::TurnAnswer {
+        witness::turns(&self.polygons, &self.sequences, &mut self.turns)
+    }
+
     /// What the two lists hold.
     fn numbers(&self) -> (Vec<u32>, Vec<u32>) {
         (self.polygons.clone(), self.sequences.clone())
@@ -171,5 +144,74 @@ impl Desk {
         self.polygons.fill(7);
         self.sequences.fill(7);
         self.journal.fill(7);
+    }
+}
+
+/// Several sheets, each with what is lent for it, worked one after the other.
+pub struct Desks(Vec<Desk>);
+
+impl Desks {
+    /// Each sheet with as many rows as its peak. What comes out is compared.
+    pub fn new(sheets: Vec<Sheet>) -> Desks {
+        let desk = |sheet: Sheet| {
+            let rows = outline::rows_enough(&sheet);
+            let peak = Desk::new(sheet.clone(), rows).compare();
+            let mut desk = Desk::new(sheet, peak);
+            desk.compare();
+            desk
+        };
+        Desks(sheets.into_iter().map(desk).collect())
+    }
+
+    /// How many edges all of them have.
+    pub fn count(&self) -> usize {
+        self.0.iter().map(Desk::count).sum()
+    }
+
+    /// The edges and the rows of the first one.
+    pub fn first(&self) -> (usize, usize) {
+        let desk = &self.0[0];
+        (desk.count(), desk.rows.len() / outline::NUMBERS_PER_ROW)
+    }
+
+    /// Times all rivals.
+    pub fn time(&mut self) -> Times {
+        Times {
+            engine: self.best_of(|desk| {
+                desk.engine();
+            }),
+            witness: self.best_of(|desk| {
+                desk.witness();
+            }),
+            sweeps: self.time_sweeps(),
+            hashed: self.best_of(|desk| {
+                desk.hashed();
+            }),
+            turns: self.best_of(|desk| {
+                desk.engine_turns();
+            }),
+            witness_turns: self.best_of(|desk| {
+                desk.witness_turns();
+            }),
+        }
+    }
+
+    /// Times some work on every desk.
+    fn best_of(&mut self, work: fn(&mut Desk)) -> f64 {
+        best(|| self.0.iter_mut().for_each(work))
+    }
+
+    /// Times the witness's two sweeps on the lists as edges.
+    fn time_sweeps(&self) -> f64 {
+        let read = |desk: &Desk| (read_edges(&desk.edges), desk.rows.len());
+        let lists: Vec<_> = self.0.iter().map(read).collect();
+        best(|| {
+            for (edges, room) in &lists {
+                let rows = room / outline::NUMBERS_PER_ROW;
+                let swept = sweep_up(edges, rows).expect("rows enough");
+                let numbering = sweep_down(&swept.records, edges.len());
+                assert_eq!(numbering.polygons.len(), edges.len());
+            }
+        })
     }
 }

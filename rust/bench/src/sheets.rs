@@ -8,11 +8,11 @@ pub const SIZES: [usize; 4] = [512, 1_024, 2_048, 4_096];
 /// The edges of the most that a list may hold.
 const MOST: usize = 4 * 4_096;
 
-/// A shape and how it is made with about so many edges.
+/// A shape and how it is made with about so many edges, by chance.
 pub struct Shape {
     /// Its name in the table.
     pub name: &'static str,
-    make: fn(usize) -> Sheet,
+    make: fn(&mut Random, usize) -> Sheet,
 }
 
 /// The five shapes. A grid of 4,096 edges has 1,024 squares, a comb 1,024 teeth.
@@ -23,34 +23,33 @@ pub const SHAPES: [Shape; 5] = [
     },
     Shape {
         name: "squares",
-        make: |edges| {
-            squares(
-                &mut Random::new(2),
-                edges / 4 / side(edges / 4),
-                side(edges / 4),
-            )
-        },
+        make: |random, edges| squares(random, edges / 4 / side(edges / 4), side(edges / 4)),
     },
     Shape {
         name: "comb",
-        make: |edges| comb(&mut Random::new(3), edges / 4),
+        make: |random, edges| comb(random, edges / 4),
     },
     Shape {
         name: "spiral",
-        make: |edges| spiral(&mut Random::new(4), edges / 2),
+        make: |random, edges| spiral(random, edges / 2),
     },
     Shape {
         name: "saw",
-        make: |edges| saw(&mut Random::new(5), edges.trailing_zeros() - 1),
+        make: |random, edges| saw(random, edges.trailing_zeros() - 1),
     },
 ];
 
 impl Shape {
-    /// The sheet of this shape with about so many edges.
-    pub fn sheet(&self, edges: usize) -> Sheet {
-        let sheet = (self.make)(edges);
-        assert!(!sheet.is_empty() && sheet.len() <= MOST);
-        sheet
+    /// Sheets of this shape with about so many edges each, different ones, so
+    /// many that they have as many edges together in every size: a machine that
+    /// is shown one small sheet again and again learns it by heart.
+    pub fn sheets(&self, edges: usize) -> Vec<Sheet> {
+        let sheet = |seed: usize| {
+            let sheet = (self.make)(&mut Random::new(seed as u64), edges);
+            assert!(!sheet.is_empty() && sheet.len() <= MOST);
+            sheet
+        };
+        (1..=SIZES[SIZES.len() - 1] / edges).map(sheet).collect()
     }
 }
 
@@ -65,10 +64,11 @@ fn side(squares: usize) -> usize {
 
 /// A bitmap, half of it film, one edge a pixel side; as large as it may be
 /// without having more edges than asked for.
-fn pixel_art(edges: usize) -> Sheet {
+fn pixel_art(random: &mut Random, edges: usize) -> Sheet {
+    let seed = random.draw();
     let draw = |width: usize| {
         let height = width.min(edges / width + 1);
-        pixels(&mut Random::new(1), width, height, 50, false)
+        pixels(&mut Random::new(seed), width, height, 50, false)
     };
     let fits = |width: &usize| draw(*width).len() <= 4 * edges;
     let largest = (4..=63).take_while(fits).last();
