@@ -4,3 +4,4 @@ pub mod Tips
 pub mod Searching
 pub mod Looking
 pub mod Writing
+pub mod Marking

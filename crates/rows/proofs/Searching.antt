@@ -1,26 +1,28 @@
 -- The two searches stop at the peak or at the last row of the slice, whichever comes first. Past the slice every row looks free, so no tip is found
 -- there, and the first row past it is the lowest free one where all before it are in use.
 use mathlib.Core.Path.{_≡_, refl, ap}
-use mathlib.Core.Bool.{Bool, true, false, not}
+use mathlib.Core.Bool.{Bool, true, false, not, _&&_}
 use mathlib.Core.Logic.{⊎-elim}
 use mathlib.Core.List.{List}
 use Prim.Native.Nat.{ℕ, _+_, _*_, _/_, _≤_, _<_, min}
 use native.Mathlib.Omega.{arith}
-use lib.Dec.{ltb}
+use lib.Dec.{ltb, eqb}
 use lib.IntN.{ℤ, pos, negsuc}
 use lib.ListN.{length, getD}
 use lib.Signed.{leZ, ltZ, mag}
 use mir.Syntax.{w32}
 use mir.Val.{toZ, ofZ}
-use borrow.Author.Tests.{lt-ltb, le-ltb, le-leb, lt-leb, ltb-true, leb-true, leb-false}
+use borrow.Author.Tests.{lt-ltb, le-ltb, le-leb, lt-leb, ltb-true, leb-true, leb-false, eqb-true}
 use Rattle.laws.specs.Counting.{first}
 use Rattle.laws.proofs.Bits.{read-back}
 use Rattle.laws.proofs.Deciding.{lt-or-le, not-both, both-true}
 use Rattle.laws.proofs.First.{first-is, first-holds}
 use Rattle.laws.proofs.Tests.{not-not}
 use Rattle.sheet.specs.declared.Point.{Point}
+use Rattle.sheet.specs.Points.{isSame}
 use Rattle.steps.specs.declared.Side.{Side}
 use Rattle.steps.specs.declared.Found.the-variants.{At, Nothing}
+use Rattle.steps.specs.Rows.{on}
 use Rattle.steps.specs.SweepUp.{pickFound, foundBelow, hasTip}
 use Rattle.rows.specs.Layout.{pointPlaces, HasRow, lookRow}
 
@@ -62,9 +64,24 @@ module _ (s : List ℤ) where
     unfolding hasTip
     tip-in-use r e = both-true _ _ e .0
 
+    -- what a row that passes the test has
+    pub tip-parts : (r : ℕ) → hasTip pointPlaces level side tip (lookRow s r) ≡ true →
+        (lookRow s r .level ≡ level) × (isSame (on side (lookRow s r .branch) .tip) tip ≡ true)
+    unfolding hasTip pointPlaces
+    tip-parts r t =
+        let row = lookRow s r in
+        let place = not (on side (row .branch) .finished) && isSame (on side (row .branch) .tip) tip in
+        let e : (eqb (row .level) level && place) ≡ true = both-true (row .used) _ t .1 in
+        let f = both-true (eqb (row .level) level) place e in
+        (eqb-true _ _ (f .0), both-true (not (on side (row .branch) .finished)) (isSame (on side (row .branch) .tip) tip) (f .1) .1)
+
     -- a row that is found is there
     pub found-there : (peak r : ℕ) → foundBelow (λ k. hasTip pointPlaces level side tip (lookRow s k)) peak ≡ At r → HasRow s r
     found-there peak r e = has-row r (tip-in-use r (found-is (λ k. hasTip pointPlaces level side tip (lookRow s k)) peak r e .1))
+
+    -- and of the level
+    pub found-level : (peak r : ℕ) → foundBelow (λ k. hasTip pointPlaces level side tip (lookRow s k)) peak ≡ At r → lookRow s r .level ≡ level
+    found-level peak r e = tip-parts r (found-is (λ k. hasTip pointPlaces level side tip (lookRow s k)) peak r e .1) .0
 
     pub past-no-tip : (r : ℕ) → length s < 8 * r + 8 → hasTip pointPlaces level side tip (lookRow s r) ≡ false
     unfolding hasTip

@@ -1,5 +1,8 @@
 // Rows in the lent slice. Only this crate knows how a row lies in its eight numbers: specs/Layout.antt says it, and the functions here are proved
-// equal to what the steps do with a table of rows laid out so. Searches stop at the peak, above which no row was ever open.
+// equal to what the steps do with a table of rows laid out so. Searches stop at the peak, above which no row was ever open; where a search for a tip
+// starts, its mark says.
+pub mod marks;
+
 use sheet::Point;
 use steps::Found;
 use steps::Side;
@@ -14,6 +17,7 @@ ghost use Rattle.sheet.specs.Points.{isSame};
 ghost use Rattle.steps.specs.Rows.{on};
 ghost use Rattle.steps.specs.SweepUp.{foundBelow, hasTip, bothFinished};
 ghost use Rattle.rows.specs.Layout.{pointPlaces, rowsIn, HasRow, branchAt, freedNumber, lookRow, openedIn, movedIn, finishedIn, freedIn};
+ghost use Rattle.rows.specs.Marks.{Marked};
 
 // How many numbers a row has.
 pub const NUMBERS: usize = 8;
@@ -61,13 +65,13 @@ fn has_tip(rows: &[i32], r: usize, level: u32, side: Side, tip: Point) -> bool
     rows[NUMBERS * r] == level as i32 + 1
 }
 
-// The first row below the peak with such a tip.
-pub fn find(rows: &[i32], peak: usize, level: u32, side: Side, tip: Point) -> Found
-    requires { ⌜ level < 2147483647 ⌝ }
+// The first row below the peak with such a tip. Its mark says where to start.
+pub fn find(rows: &[i32], marks: &[u16], peak: usize, level: u32, side: Side, tip: Point) -> Found
+    requires { ⌜ (level < 2147483647) × Marked (now marks) (now rows) peak ⌝ }
     ensures { λ f. ⌜ f ≡ foundBelow (λ r. hasTip pointPlaces level side tip (lookRow (now (rows .entry)) r)) peak ⌝ }
 {
     let n = laws::lower_of(peak, rows.len() / NUMBERS);
-    let mut r: usize = 0;
+    let mut r = marks::start(marks, level, side, tip);
     while r < n {
         if has_tip(rows, r, level, side, tip) {
             return Found::At(r);

@@ -58,6 +58,14 @@ y-within : (p : Point) → inRange p ≡ true → within (p .y) ≡ true
 unfolding inRange
 y-within p h = both-true (within (p .x)) (within (p .y)) h .1
 
+-- points that are the same are one
+pub same-point : (p q : Point) → isSame p q ≡ true → p ≡ q
+unfolding isSame
+same-point p q t =
+    let ey = sameZ-true (p .y) (q .y) (both-true (sameZ (p .y) (q .y)) (sameZ (p .x) (q .x)) t .0) in
+    let ex = sameZ-true (p .x) (q .x) (both-true (sameZ (p .y) (q .y)) (sameZ (p .x) (q .x)) t .1) in
+    λ i. record { x = ex i; y = ey i }
+
 module _ (p q : Point) (hp : inRange p ≡ true) (hq : inRange q ≡ true) where
   -- points of one rank are one
   pub rank-inj : rank p ≡ rank q → p ≡ q
@@ -101,13 +109,7 @@ module _ (p q : Point) (hp : inRange p ≡ true) (hq : inRange q ≡ true) where
       yes e = let h = rank-inj e in rw (eq-eqb _ _ e, sameZ-yes (p .y) (q .y) (ap (λ (o : Point). o .y) h)) (sameZ-yes (p .x) (q .x) (ap (λ (o : Point). o .x) h))
 
       no : (rank p ≡ rank q → ⊥) → (sameZ (p .y) (q .y) && sameZ (p .x) (q .x)) ≡ eqb (rank p) (rank q)
-      no n = rw (ne-eqb _ _ n) (⊎-elim (λ t. absurd (n (ap rank (whole t)))) (λ f. f) (true-or-false (sameZ (p .y) (q .y) && sameZ (p .x) (q .x))))
-        where
-          whole : (sameZ (p .y) (q .y) && sameZ (p .x) (q .x)) ≡ true → p ≡ q
-          whole t =
-              let ey = sameZ-true (p .y) (q .y) (both-true (sameZ (p .y) (q .y)) (sameZ (p .x) (q .x)) t .0) in
-              let ex = sameZ-true (p .x) (q .x) (both-true (sameZ (p .y) (q .y)) (sameZ (p .x) (q .x)) t .1) in
-              λ i. record { x = ex i; y = ey i }
+      no n = rw (ne-eqb _ _ n) (⊎-elim (λ t. absurd (n (ap rank (same-point p q t)))) (λ f. f) (true-or-false (sameZ (p .y) (q .y) && sameZ (p .x) (q .x))))
 
 -- a rank in the range has 42 bits
 pub rank-small : (p : Point) → inRange p ≡ true → rank p < 4000004000001

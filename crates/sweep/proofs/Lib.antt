@@ -2,6 +2,7 @@
 pub mod Rooms
 pub mod Attaching
 pub mod Ways
+pub mod Marks
 pub mod Sweeping
 pub mod Sums
 pub mod Handing

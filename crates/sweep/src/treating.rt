@@ -12,6 +12,7 @@ ghost use Prim.Native.Nat.{_+_, _-_, _<_};
 ghost use lib.IntN.{ℤ};
 ghost use Rattle.steps.specs.SweepUp as up;
 ghost use Rattle.rows.specs.Layout.{HasRow, lookRow};
+ghost use Rattle.rows.specs.Marks.{Marked};
 ghost use Rattle.sweep.specs.Slices.{roomOf, state, edgeOf};
 
 // The largest length that a row holds.
@@ -44,11 +45,22 @@ fn close(journal: &mut [i32], s: Progress, level: u32, e: NamedEdge) -> Progress
 }
 
 // The lowest free row opened at a place. As the rows below it are in use, its name tells the peak.
-fn open_lowest(rows: &mut [i32], s: Progress, r: usize, level: u32, tip: Point) -> Progress
+fn open_lowest(
+    rows: &mut [i32],
+    marks: &mut [u16],
+    s: Progress,
+    r: usize,
+    level: u32,
+    tip: Point,
+) -> Progress
     requires { ⌜ HasRow (now rows) r × (level < 2147483647) × ((b : List ℤ) → r ≡ up.lowestFree (roomOf (now rows) b) (state (now rows) b s)) ⌝ }
+    requires { ⌜ Marked (now marks) (now rows) (s .peak) ⌝ }
     ensures { λ p. ⌜ ((b : List ℤ) → state (now (rows .exit)) b p ≡ up.open-row (roomOf (now (rows .entry)) b) (state (now (rows .entry)) b s) r level tip) ⌝ }
+    ensures { λ p. ⌜ Marked (now (marks .exit)) (now (rows .exit)) (p .peak) ⌝ }
 {
     rows::open_row(rows, r, level, tip);
+    rows::marks::mark(marks, level, Side::Rising, tip, r);
+    rows::marks::mark(marks, level, Side::Falling, tip, r);
     s.in_use(r + 1)
 }
 
@@ -56,14 +68,17 @@ fn open_lowest(rows: &mut [i32], s: Progress, r: usize, level: u32, tip: Point) 
 fn attach(
     rows: &mut [i32],
     journal: &mut [i32],
+    marks: &mut [u16],
     s: Progress,
     level: u32,
     side: Side,
     e: NamedEdge,
     r: usize,
 ) -> Progress
-    requires { ⌜ HasRow (now rows) r ⌝ }
+    requires { ⌜ HasRow (now rows) r × (lookRow (now rows) r .level ≡ level) ⌝ }
+    requires { ⌜ Marked (now marks) (now rows) (s .peak) ⌝ }
     ensures { λ p. ⌜ state (now (rows .exit)) (now (journal .exit)) p ≡ up.attach (roomOf (now (rows .entry)) (now (journal .entry))) (state (now (rows .entry)) (now (journal .entry)) s) level side (edgeOf e) r ⌝ }
+    ensures { λ p. ⌜ Marked (now (marks .exit)) (now (rows .exit)) (p .peak) ⌝ }
 {
     let records = s.records;
     if journal::records_in(journal) <= records {
@@ -77,7 +92,9 @@ fn attach(
     let offset = signed(side, before + e.length(side.other()));
     let name = e.name;
     journal::write_attached(journal, records, level, name, r, offset);
-    rows::move_tip(rows, r, side, e.bottom(side.other()), longer as u32);
+    let top = e.bottom(side.other());
+    rows::move_tip(rows, r, side, top, longer as u32);
+    rows::marks::mark(marks, level, side, top, r);
     s.recorded()
 }
 
@@ -103,13 +120,16 @@ fn as_edge(rows: &[i32], r: usize) -> NamedEdge
 pub fn treat(
     rows: &mut [i32],
     journal: &mut [i32],
+    marks: &mut [u16],
     s: Progress,
     level: u32,
     left: u32,
     e: NamedEdge,
 ) -> Progress
     requires { ⌜ (level + left ≡ 12) × (e .falling < 2147483648) ⌝ }
+    requires { ⌜ Marked (now marks) (now rows) (s .peak) ⌝ }
     ensures { λ p. ⌜ state (now (rows .exit)) (now (journal .exit)) p ≡ up.treat (roomOf (now (rows .entry)) (now (journal .entry))) left level (state (now (rows .entry)) (now (journal .entry)) s) (edgeOf e) ⌝ }
+    ensures { λ p. ⌜ Marked (now (marks .exit)) (now (rows .exit)) (p .peak) ⌝ }
 {
     let tail = e.tail;
     if tail.same(e.head) {
@@ -121,21 +141,22 @@ pub fn treat(
     let peak = s.peak;
     let side = e.side();
     let bottom = e.bottom(side);
-    let Found::At(r) = rows::find(rows, peak, level, side, bottom) else {
+    let Found::At(r) = rows::find(rows, marks, peak, level, side, bottom) else {
         let free = rows::lowest_free(rows, peak);
         if rows::rows_in(rows) <= free {
             return s.ended(End::NoFreeRow);
         }
-        let t = open_lowest(rows, s, free, level, bottom);
-        return on_row(rows, journal, t, level, left, side, e, free);
+        let t = open_lowest(rows, marks, s, free, level, bottom);
+        return on_row(rows, journal, marks, t, level, left, side, e, free);
     };
-    on_row(rows, journal, s, level, left, side, e, r)
+    on_row(rows, journal, marks, s, level, left, side, e, r)
 }
 
 // Steps 2 to 4 on a row.
 fn on_row(
     rows: &mut [i32],
     journal: &mut [i32],
+    marks: &mut [u16],
     s: Progress,
     level: u32,
     left: u32,
@@ -143,28 +164,31 @@ fn on_row(
     e: NamedEdge,
     r: usize,
 ) -> Progress
-    requires { ⌜ HasRow (now rows) r × (level + left ≡ 12) × (0 < left) ⌝ }
+    requires { ⌜ HasRow (now rows) r × (lookRow (now rows) r .level ≡ level) × (level + left ≡ 12) × (0 < left) ⌝ }
+    requires { ⌜ Marked (now marks) (now rows) (s .peak) ⌝ }
     ensures { λ p. ⌜ state (now (rows .exit)) (now (journal .exit)) p ≡ up.onRow (roomOf (now (rows .entry)) (now (journal .entry))) (up.treat (roomOf (now (rows .entry)) (now (journal .entry))) (left - 1) (level + 1)) (state (now (rows .entry)) (now (journal .entry)) s) level side (edgeOf e) r ⌝ }
+    ensures { λ p. ⌜ Marked (now (marks .exit)) (now (rows .exit)) (p .peak) ⌝ }
 {
-    let t = attach(rows, journal, s, level, side, e, r);
+    let t = attach(rows, journal, marks, s, level, side, e, r);
     if !t.is_done() {
         return t;
     }
     let other = side.other();
     let top = e.bottom(other);
     let peak = t.peak;
-    let Found::At(q) = rows::find(rows, peak, level, other, top) else {
+    let Found::At(q) = rows::find(rows, marks, peak, level, other, top) else {
         return t;
     };
     rows::finish(rows, q, other);
     rows::finish(rows, r, side);
-    pass_both(rows, journal, t, level, left, q, r)
+    pass_both(rows, journal, marks, t, level, left, q, r)
 }
 
 // The row found, then this row; once where they are one.
 fn pass_both(
     rows: &mut [i32],
     journal: &mut [i32],
+    marks: &mut [u16],
     s: Progress,
     level: u32,
     left: u32,
@@ -172,35 +196,40 @@ fn pass_both(
     r: usize,
 ) -> Progress
     requires { ⌜ HasRow (now rows) q × HasRow (now rows) r × (level + left ≡ 12) × (0 < left) ⌝ }
+    requires { ⌜ Marked (now marks) (now rows) (s .peak) ⌝ }
     ensures { λ p. ⌜ state (now (rows .exit)) (now (journal .exit)) p ≡ up.passBoth (roomOf (now (rows .entry)) (now (journal .entry))) (up.treat (roomOf (now (rows .entry)) (now (journal .entry))) (left - 1) (level + 1)) (state (now (rows .entry)) (now (journal .entry)) s) q r ⌝ }
+    ensures { λ p. ⌜ Marked (now (marks .exit)) (now (rows .exit)) (p .peak) ⌝ }
 {
-    let t = pass_up(rows, journal, s, level, left, q);
+    let t = pass_up(rows, journal, marks, s, level, left, q);
     if q == r {
         return t;
     }
     if !t.is_done() {
         return t;
     }
-    pass_up(rows, journal, t, level, left, r)
+    pass_up(rows, journal, marks, t, level, left, r)
 }
 
 // A row with both branches finished passed up and then freed.
 fn pass_up(
     rows: &mut [i32],
     journal: &mut [i32],
+    marks: &mut [u16],
     s: Progress,
     level: u32,
     left: u32,
     r: usize,
 ) -> Progress
     requires { ⌜ HasRow (now rows) r × (level + left ≡ 12) × (0 < left) ⌝ }
+    requires { ⌜ Marked (now marks) (now rows) (s .peak) ⌝ }
     ensures { λ p. ⌜ state (now (rows .exit)) (now (journal .exit)) p ≡ up.passUp (roomOf (now (rows .entry)) (now (journal .entry))) (up.treat (roomOf (now (rows .entry)) (now (journal .entry))) (left - 1) (level + 1)) (state (now (rows .entry)) (now (journal .entry)) s) r ⌝ }
+    ensures { λ p. ⌜ Marked (now (marks .exit)) (now (rows .exit)) (p .peak) ⌝ }
 {
     if !rows::both_finished(rows, r) {
         return s;
     }
     let e = as_edge(rows, r);
-    let t = treat(rows, journal, s, level + 1, left - 1, e);
+    let t = treat(rows, journal, marks, s, level + 1, left - 1, e);
     if !t.is_done() {
         return t;
     }

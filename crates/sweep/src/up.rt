@@ -42,10 +42,11 @@ pub fn sweep_up(edges: &[i32], n: usize, journal: &mut [i32], rows: &mut [i32]) 
         peak: 0,
         end: End::Done,
     };
+    let mut marks = [0u16; rows::marks::SLOTS];
     let mut edge: usize = 0;
     let mut i: usize = 0;
     while i < n {
-        s = treating::treat(rows, journal, s, 0, LEVELS, list_edge(edges, i));
+        s = treating::treat(rows, journal, &mut marks, s, 0, LEVELS, list_edge(edges, i));
         edge = i;
         if !s.is_done() {
             return Swept { progress: s, edge };

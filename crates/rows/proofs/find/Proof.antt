@@ -1,5 +1,5 @@
--- `rows::find` meets its contract. The loop's invariant: no row passed has such a tip. Past the slice no row has one.
-use Prim.Native.Nat.{ℕ, _≤_, _<_, _-_}
+-- `rows::find` meets its contract. The loop's invariant: no row passed has such a tip. Before the start and past the slice no row has one.
+use Prim.Native.Nat.{ℕ, _<_, _-_}
 use native.Mathlib.Omega.{arith}
 use mathlib.Core.Path.{_≡_, _∙_, sym}
 use mathlib.Core.Bool.{false}
@@ -8,34 +8,39 @@ use borrow.Author.Count.{below-more}
 use Rattle.steps.specs.SweepUp.{hasTip}
 use Rattle.rows.specs.Layout.{pointPlaces, lookRow}
 use Rattle.rows.proofs.Searching.{found, nothing, past-no-tip}
+use Rattle.rows.proofs.Marking.{none-before}
 use Rattle.rows.proofs.find.Statement.{statement}
 use Rattle.rows.proofs.find.Tie as tie
 
 abbrev Inv-loop : tie.InvT-loop
-Inv-loop rows peak level side tip n r₀ r = (r ≤ n) × ((k : ℕ) → k < r → hasTip pointPlaces level side tip (lookRow rows k) ≡ false)
+Inv-loop rows marks peak level side tip n r₀ r = (k : ℕ) → k < r → k < peak → hasTip pointPlaces level side tip (lookRow rows k) ≡ false
 
 abbrev μ-loop : tie.MeasureT-loop
-μ-loop rows peak level side tip n r₀ r = n - r
+μ-loop rows marks peak level side tip n r₀ r = n - r
 
 loop-holds : tie.Need-loop-holds Inv-loop μ-loop
-loop-holds c = (search needs, λ k h. absurd (omega arith))
+loop-holds c =
+    let g = c .before .before .before in
+    λ k h l. none-before _ k _ _ _ (g .pre .1) (rw (c .start .ensures) at h) l
 
 returns : tie.Need-returns Inv-loop μ-loop
 returns c =
-    let a = c .before .before .before .before .before .args in
+    let a = c .before .before .before .before .before .before .before .args in
     let l = c .before .before .before .loop in
-    found (λ k. hasTip pointPlaces (a .level) (a .side) (a .tip) (lookRow (a .rows .now) k)) (a .peak) (c .before .before .before .before .lower-of .result) (omega arith)
-    (l .r) (c .before .before .loop-test .taken) (sym (c .before .has-tip .ensures) ∙ c .if1 .taken) (l .inv .1)
+    let n = c .before .before .before .before .before .lower-of in
+    found (λ k. hasTip pointPlaces (a .level) (a .side) (a .tip) (lookRow (a .rows .now) k)) (a .peak) (n .result) (omega (arith, n .ensures))
+    (l .r) (c .before .before .loop-test .taken) (sym (c .before .has-tip .ensures) ∙ c .if1 .taken) (λ k h. l .inv k h (omega (arith, h, n .ensures, c .before .before .loop-test .taken)))
 
 loop-again : tie.Need-loop-again Inv-loop μ-loop
-loop-again c = (search needs, below-more _ _ (c .before .before .before .loop .inv .1) (sym (c .before .has-tip .ensures) ∙ c .if1 .left))
+loop-again c = below-more _ _ (c .before .before .before .loop .inv) (λ _. sym (c .before .has-tip .ensures) ∙ c .if1 .left)
 
 returns-2 : tie.Need-returns-2 Inv-loop μ-loop
 returns-2 c =
-    let a = c .before .before .before .args in
-    nothing (λ k. hasTip pointPlaces (a .level) (a .side) (a .tip) (lookRow (a .rows .now) k)) (a .peak) (c .before .before .lower-of .result) (omega arith)
-    (λ k h. c .before .loop .inv .1 k (omega arith))
-    (λ k h l. past-no-tip (a .rows .now) (a .level) (a .side) (a .tip) k (omega arith))
+    let a = c .before .before .before .before .before .args in
+    let n = c .before .before .before .lower-of in
+    nothing (λ k. hasTip pointPlaces (a .level) (a .side) (a .tip) (lookRow (a .rows .now) k)) (a .peak) (n .result) (omega (arith, n .ensures))
+    (λ k h. c .before .loop .inv k (omega (arith, h, c .loop-test .left)) (omega (arith, h, n .ensures)))
+    (λ k h l. past-no-tip (a .rows .now) (a .level) (a .side) (a .tip) k (omega (arith, h, l, n .ensures)))
 
 pub find-spec : {M : Type 1} → statement M
 find-spec =
@@ -43,7 +48,7 @@ find-spec =
     (tie.spec
     Inv-loop
     μ-loop
-    (search needs) loop-holds
+    (search needs) (search needs) loop-holds
     (search needs) returns
     (search needs) (search needs) loop-again
     returns-2)

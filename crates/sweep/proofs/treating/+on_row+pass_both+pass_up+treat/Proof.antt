@@ -1,16 +1,21 @@
 -- The four functions that treat an edge, which call each other in a round, meet their contracts: each way out is a step by its law of Ways, and what a
--- callee requires follows from lengths that are kept and rows that were found. The measure falls with the levels left, and along the round within a level.
+-- callee requires follows from lengths that are kept, rows that were found and marks that the call before left good. The measure falls with the levels
+-- left, and along the round within a level.
 use Prim.Native.Nat.{ℕ, _+_, _-_, _*_, _<_}
 use borrow.Author.Needs.{needs}
 use native.Mathlib.Omega.{arith}
 use mathlib.Core.Path.{_≡_, sym, _∙_}
+use mathlib.Core.List.{[]}
 use lib.ListN.{length}
 use borrow.Author.Tests.{not-true, not-false}
 use Rattle.steps.specs.SweepUp as up
-use Rattle.rows.proofs.Searching.{found-there}
-use Rattle.sweep.specs.Slices.{roomOf}
+use Rattle.rows.specs.Layout.{HasRow}
+use Rattle.rows.proofs.Searching.{found-there, found-level}
+use Rattle.rows.proofs.Marking.{marked-freed}
+use Rattle.sweep.specs.Slices.{roomOf, edgeOf}
 use Rattle.sweep.proofs.Rooms.{lowest-is}
 use Rattle.sweep.proofs.Ways.{up-unfinished, up-stopped, up-freed, both-one, both-stopped, both-passed, row-stopped, row-unmet, row-met, treat-closed, treat-none-left, Searched, treat-found, treat-no-row, treat-opened}
+use Rattle.sweep.proofs.Marks.{marked-by, closing-peak, opened-level, marked-met}
 use borrow.Fn.Kinds.{In}
 use borrow.Fn.PlainCycle.{Measures, is, falls, and}
 use Rattle.sweep.proofs.treating.on_row.Reads as on-row
@@ -44,42 +49,42 @@ use Rattle.sweep.proofs.treating.open_lowest.Reads as open-lowest-reads
 use Rattle.sweep.proofs.treating.+on_row+pass_both+pass_up+treat.{statement}
 use Rattle.sweep.proofs.treating.+on_row+pass_both+pass_up+treat.Tie.{close}
 
-abbrev μ-on-row : Measures 2 on-row-kinds.ps ℕ
-μ-on-row κs a = 4 * a .1 .1 .1 .1 .0 + 2
+abbrev μ-on-row : Measures 3 on-row-kinds.ps ℕ
+μ-on-row κs a = 4 * a .1 .1 .1 .1 .1 .0 + 2
 
-abbrev μ-pass-both : Measures 2 pass-both-kinds.ps ℕ
-μ-pass-both κs a = 4 * a .1 .1 .1 .1 .0 + 1
+abbrev μ-pass-both : Measures 3 pass-both-kinds.ps ℕ
+μ-pass-both κs a = 4 * a .1 .1 .1 .1 .1 .0 + 1
 
-abbrev μ-pass-up : Measures 2 pass-up-kinds.ps ℕ
-μ-pass-up κs a = 4 * a .1 .1 .1 .1 .0
+abbrev μ-pass-up : Measures 3 pass-up-kinds.ps ℕ
+μ-pass-up κs a = 4 * a .1 .1 .1 .1 .1 .0
 
-abbrev μ-treat : Measures 2 treat-kinds.ps ℕ
-μ-treat κs a = 4 * a .1 .1 .1 .1 .0 + 3
+abbrev μ-treat : Measures 3 treat-kinds.ps ℕ
+μ-treat κs a = 4 * a .1 .1 .1 .1 .1 .0 + 3
 
-abbrev on-row-at : ℕ → In 2 on-row-kinds.ps
-on-row-at t = and 2 on-row-kinds.ps (is 2 on-row-kinds.ps μ-on-row t) on-row.Pre
+abbrev on-row-at : ℕ → In 3 on-row-kinds.ps
+on-row-at t = and 3 on-row-kinds.ps (is 3 on-row-kinds.ps μ-on-row t) on-row.Pre
 
-abbrev on-row-below : ℕ → In 2 on-row-kinds.ps
-on-row-below t = and 2 on-row-kinds.ps (falls 2 on-row-kinds.ps _<_ μ-on-row t) on-row.Pre
+abbrev on-row-below : ℕ → In 3 on-row-kinds.ps
+on-row-below t = and 3 on-row-kinds.ps (falls 3 on-row-kinds.ps _<_ μ-on-row t) on-row.Pre
 
-abbrev pass-both-at : ℕ → In 2 pass-both-kinds.ps
-pass-both-at t = and 2 pass-both-kinds.ps (is 2 pass-both-kinds.ps μ-pass-both t) pass-both.Pre
+abbrev pass-both-at : ℕ → In 3 pass-both-kinds.ps
+pass-both-at t = and 3 pass-both-kinds.ps (is 3 pass-both-kinds.ps μ-pass-both t) pass-both.Pre
 
-abbrev pass-both-below : ℕ → In 2 pass-both-kinds.ps
+abbrev pass-both-below : ℕ → In 3 pass-both-kinds.ps
 pass-both-below t =
-    and 2 pass-both-kinds.ps (falls 2 pass-both-kinds.ps _<_ μ-pass-both t) pass-both.Pre
+    and 3 pass-both-kinds.ps (falls 3 pass-both-kinds.ps _<_ μ-pass-both t) pass-both.Pre
 
-abbrev pass-up-at : ℕ → In 2 pass-up-kinds.ps
-pass-up-at t = and 2 pass-up-kinds.ps (is 2 pass-up-kinds.ps μ-pass-up t) pass-up.Pre
+abbrev pass-up-at : ℕ → In 3 pass-up-kinds.ps
+pass-up-at t = and 3 pass-up-kinds.ps (is 3 pass-up-kinds.ps μ-pass-up t) pass-up.Pre
 
-abbrev pass-up-below : ℕ → In 2 pass-up-kinds.ps
-pass-up-below t = and 2 pass-up-kinds.ps (falls 2 pass-up-kinds.ps _<_ μ-pass-up t) pass-up.Pre
+abbrev pass-up-below : ℕ → In 3 pass-up-kinds.ps
+pass-up-below t = and 3 pass-up-kinds.ps (falls 3 pass-up-kinds.ps _<_ μ-pass-up t) pass-up.Pre
 
-abbrev treat-at : ℕ → In 2 treat-kinds.ps
-treat-at t = and 2 treat-kinds.ps (is 2 treat-kinds.ps μ-treat t) treat.Pre
+abbrev treat-at : ℕ → In 3 treat-kinds.ps
+treat-at t = and 3 treat-kinds.ps (is 3 treat-kinds.ps μ-treat t) treat.Pre
 
-abbrev treat-below : ℕ → In 2 treat-kinds.ps
-treat-below t = and 2 treat-kinds.ps (falls 2 treat-kinds.ps _<_ μ-treat t) treat.Pre
+abbrev treat-below : ℕ → In 3 treat-kinds.ps
+treat-below t = and 3 treat-kinds.ps (falls 3 treat-kinds.ps _<_ μ-treat t) treat.Pre
 
 abbrev treat-calls : ℕ → treat-lts.Claims
 treat-calls t = (
@@ -148,23 +153,25 @@ on-row-calls t = (
 on-row-returns : (t : ℕ) → on-row-lts.Need-returns (on-row-calls t) (on-row-at t) on-row.Post
 on-row-returns t c =
     let c₁ = c .before in
-    let c₄ = c₁ .before .before .before in
-    let c₇ = c₄ .before .before .before in
-    let g = c₇ .args in
-    row-stopped (g .rows .now) (g .journal .now) (g .left - 1) (g .level) (g .s) (g .level + 1) (g .side) (g .e) (g .r) (c₄ .attach .ensures) (sym (c₁ .is-done .ensures) ∙ not-true _ (c .if1 .taken))
+    let c₆ = c₁ .before .before .before .before .before in
+    let c₁₁ = c₆ .before .before .before .before .before in
+    let g = c₁₁ .args in
+    (row-stopped (g .rows .now) (g .journal .now) (g .left - 1) (g .level) (g .s) (g .level + 1) (g .side) (g .e) (g .r) (c₆ .attach .ensures .0) (sym (c₁ .is-done .ensures) ∙ not-true _ (c .if1 .taken)), c₆ .attach .ensures .1)
 
 on-row-returns-2 : (t : ℕ) → on-row-lts.Need-returns-2 (on-row-calls t) (on-row-at t) on-row.Post
 on-row-returns-2 t c =
     let c₂ = c .before .before in
-    let c₄ = c₂ .before .before in
-    let c₅ = c₄ .before in
+    let c₅ = c₂ .before .before .before in
     let c₆ = c₅ .before in
     let c₇ = c₆ .before in
-    let c₁₀ = c₇ .before .before .before in
-    let c₁₃ = c₁₀ .before .before .before in
-    let g = c₁₃ .args in
-    row-unmet (g .rows .now) (g .journal .now) (g .left - 1) (g .level) (g .s) (g .level + 1) (g .side) (g .e) (g .r) (c₁₀ .attach .ensures) (sym (c₇ .is-done .ensures) ∙ not-false _ (c₆ .if1 .left))
-    (c₅ .other .ensures) (c₄ .bottom .ensures) (c₂ .find .ensures) (c .enum-told .given .1)
+    let c₈ = c₇ .before in
+    let c₁₃ = c₈ .before .before .before .before .before in
+    let c₁₈ = c₁₃ .before .before .before .before .before in
+    let g = c₁₈ .args in (
+      row-unmet (g .rows .now) (g .journal .now) (g .left - 1) (g .level) (g .s) (g .level + 1) (g .side) (g .e) (g .r) (c₁₃ .attach .ensures .0) (sym (c₈ .is-done .ensures) ∙ not-false _ (c₇ .if1 .left))
+          (c₆ .other .ensures) (c₅ .bottom .ensures) (c₂ .find .ensures) (c .enum-told .given .1),
+      c₁₃ .attach .ensures .1,
+    )
 
 on-row-finish-requires : (t : ℕ) → on-row-lts.Need-finish-requires (on-row-calls t) (on-row-at t) on-row.Post
 on-row-finish-requires t c κs =
@@ -172,130 +179,194 @@ on-row-finish-requires t c κs =
     let c₄ = c₂ .before .before in
     found-there _ _ _ _ _ _ (sym (c₄ .find .ensures) ∙ c₂ .q .given .1)
 
+on-row-finish-requires-2 : (t : ℕ) → on-row-lts.Need-finish-requires-2 (on-row-calls t) (on-row-at t) on-row.Post
+on-row-finish-requires-2 t c κs =
+    let c₂ = c .before .before in
+    let c₁₈ = c₂ .before .before .before .before .before .before .before .before .before .before .before .before .before .before .before .before in
+    let c₂₃ = c₁₈ .before .before .before .before .before in
+    omega (arith, c₂₃ .pre .1 .0 .0, c₁₈ .attach .kept .0, c₂ .finish .kept .0)
+
 on-row-pass-both-requires : (t : ℕ) → on-row-lts.Need-pass-both-requires (on-row-calls t) (on-row-at t) on-row.Post
 on-row-pass-both-requires t c κs =
-    let c₃ = c .before .before .before in
-    let c₆ = c₃ .before .before .before in
-    let c₁₉ = c₆ .before .before .before .before .before .before .before .before .before .before .before .before .before in
-    let has = on-row-finish-requires t (c₆ .before) (κs .0, tt) in
-    let k = c₆ .finish .kept .0 in
-    let l = c₃ .finish2 .kept .0 in
-    let pre = c₁₉ .before .before .before .pre in
-    (omega (arith, pre .0), (omega (arith, has, k, l), omega (arith, pre .1 .0, c₁₉ .attach .kept .0, k, l), omega (arith, pre .1 .1), omega (arith, pre .1 .2)))
+    let c₄ = c .before .before .before .before in
+    let c₇ = c₄ .before .before .before in
+    let c₈ = c₇ .before in
+    let c₂₃ = c₈ .before .before .before .before .before .before .before .before .before .before .before .before .before .before .before in
+    let c₂₈ = c₂₃ .before .before .before .before .before in
+    let hq = on-row-finish-requires t c₈ (κs .0, tt) in
+    let k = c₇ .finish .kept .0 in
+    let l = c₄ .finish2 .kept .0 in
+    let pre = c₂₈ .pre in
+    let hr : HasRow (c₂₃ .attach .last .0) (c₂₈ .args .r) = omega (arith, pre .1 .0 .0, c₂₃ .attach .kept .0) in (
+      omega (arith, pre .0),
+      (
+        (omega (arith, hq, k, l), omega (arith, hr, k, l), omega (arith, pre .1 .0 .2), omega (arith, pre .1 .0 .3)),
+        marked-met _ _ _ _ (c₂₃ .attach .ensures .1) hq hr (c₇ .finish .ensures) (c₄ .finish2 .ensures),
+      ),
+    )
+
+-- the three slices keep their lengths
+on-row-lengths : (t : ℕ) (c : on-row-lts.After-slice-known3 (on-row-calls t) (on-row-at t) on-row.Post) →
+    let c₄ = c .before .before .before .before in
+    let g = c₄ .before .before .before .before .before .before .before .before .before .before .before .before .before .before .before .before .before .before .before .before .before .before .before .before .before .before .before .before .before .args in
+    let p = c₄ .pass-both .last in
+    (length (p .0) ≡ length (g .rows .now)) × (length (p .1 .0) ≡ length (g .journal .now)) × (length (p .1 .1 .0) ≡ length (g .marks .now))
+on-row-lengths t c =
+    let c₄ = c .before .before .before .before in
+    let c₉ = c₄ .before .before .before .before .before in
+    let c₁₂ = c₉ .before .before .before in
+    let c₂₈ = c₁₂ .before .before .before .before .before .before .before .before .before .before .before .before .before .before .before .before in
+    let k = c₂₈ .attach .kept in
+    let l = c₄ .pass-both .kept in
+    (omega (arith, k, l, c₁₂ .finish .kept, c₉ .finish2 .kept), omega (arith, k, l), omega (arith, k, l))
 
 on-row-returns-3 : (t : ℕ) → on-row-lts.Need-returns-3 (on-row-calls t) (on-row-at t) on-row.Post
 on-row-returns-3 t c =
-    let c₂ = c .before .before in
-    let c₆ = c₂ .before .before .before .before in
-    let c₉ = c₆ .before .before .before in
+    let c₄ = c .before .before .before .before in
+    let c₉ = c₄ .before .before .before .before .before in
     let c₁₂ = c₉ .before .before .before in
-    let c₁₄ = c₁₂ .before .before in
-    let c₁₆ = c₁₄ .before .before in
-    let c₁₇ = c₁₆ .before in
-    let c₁₈ = c₁₇ .before in
-    let c₁₉ = c₁₈ .before in
-    let c₂₂ = c₁₉ .before .before .before in
-    let c₂₅ = c₂₂ .before .before .before in
-    let g = c₂₅ .args in
-    let la : length (c₆ .finish2 .last .0) ≡ length (g .rows .now) = omega (arith, c₂₂ .attach .kept .0, c₉ .finish .kept .0, c₆ .finish2 .kept .0) in
-    row-met (g .rows .now) (g .journal .now) (g .left - 1) (g .level) (g .s) (g .level + 1) (g .side) (g .e) (g .r) (c₂₂ .attach .ensures) (sym (c₁₉ .is-done .ensures) ∙ not-false _ (c₁₈ .if1 .left))
-    (c₁₇ .other .ensures) (c₁₆ .bottom .ensures) (c₁₄ .find .ensures) (c₁₂ .q .given .1) (c₉ .finish .ensures) (c₆ .finish2 .ensures)
-    la (c₂₂ .attach .kept .1 .0) (c₂ .pass-both .ensures)
+    let c₁₅ = c₁₂ .before .before .before in
+    let c₁₇ = c₁₅ .before .before in
+    let c₂₀ = c₁₇ .before .before .before in
+    let c₂₁ = c₂₀ .before in
+    let c₂₂ = c₂₁ .before in
+    let c₂₃ = c₂₂ .before in
+    let c₂₈ = c₂₃ .before .before .before .before .before in
+    let c₃₃ = c₂₈ .before .before .before .before .before in
+    let g = c₃₃ .args in
+    let la : length (c₉ .finish2 .last .0) ≡ length (g .rows .now) = omega (arith, c₂₈ .attach .kept .0, c₁₂ .finish .kept .0, c₉ .finish2 .kept .0) in (
+      row-met (g .rows .now) (g .journal .now) (g .left - 1) (g .level) (g .s) (g .level + 1) (g .side) (g .e) (g .r) (c₂₈ .attach .ensures .0) (sym (c₂₃ .is-done .ensures) ∙ not-false _ (c₂₂ .if1 .left))
+          (c₂₁ .other .ensures) (c₂₀ .bottom .ensures) (c₁₇ .find .ensures) (c₁₅ .q .given .1) (c₁₂ .finish .ensures) (c₉ .finish2 .ensures)
+          la (c₂₈ .attach .kept .1 .0) (c₄ .pass-both .ensures .0),
+      c₄ .pass-both .ensures .1,
+    )
 
 pass-both-returns : (t : ℕ) → pass-both-lts.Need-returns (pass-both-calls t) (pass-both-at t) pass-both.Post
 pass-both-returns t c =
-    let c₃ = c .before .before .before in
-    let c₆ = c₃ .before .before .before in
-    let g = c₆ .args in
-    both-one (g .rows .now) (g .journal .now) (g .left - 1) (g .level + 1) (g .s) (g .q) (g .r) (c₃ .pass-up .ensures) (c .if1 .taken)
+    let c₅ = c .before .before .before .before .before in
+    let c₁₀ = c₅ .before .before .before .before .before in
+    let g = c₁₀ .args in
+    (both-one (g .rows .now) (g .journal .now) (g .left - 1) (g .level + 1) (g .s) (g .q) (g .r) (c₅ .pass-up .ensures .0) (c .if1 .taken), c₅ .pass-up .ensures .1)
 
 pass-both-returns-2 : (t : ℕ) → pass-both-lts.Need-returns-2 (pass-both-calls t) (pass-both-at t) pass-both.Post
 pass-both-returns-2 t c =
     let c₁ = c .before in
     let c₂ = c₁ .before in
-    let c₅ = c₂ .before .before .before in
-    let c₈ = c₅ .before .before .before in
-    let g = c₈ .args in
-    both-stopped (g .rows .now) (g .journal .now) (g .left - 1) (g .level + 1) (g .s) (g .q) (g .r) (c₅ .pass-up .ensures) (c₂ .if1 .left) (sym (c₁ .is-done .ensures) ∙ not-true _ (c .if2 .taken))
+    let c₇ = c₂ .before .before .before .before .before in
+    let c₁₂ = c₇ .before .before .before .before .before in
+    let g = c₁₂ .args in
+    (both-stopped (g .rows .now) (g .journal .now) (g .left - 1) (g .level + 1) (g .s) (g .q) (g .r) (c₇ .pass-up .ensures .0) (c₂ .if1 .left) (sym (c₁ .is-done .ensures) ∙ not-true _ (c .if2 .taken)), c₇ .pass-up .ensures .1)
+
+pass-both-pass-up-requires-2 : (t : ℕ) → pass-both-lts.Need-pass-up-requires-2 (pass-both-calls t) (pass-both-at t) pass-both.Post
+pass-both-pass-up-requires-2 t c κs =
+    let c₁₀ = c .before .before .before .before .before .before .before .before .before .before in
+    let c₁₅ = c₁₀ .before .before .before .before .before in
+    let pre = c₁₅ .pre in
+    let p = c₁₀ .pass-up in
+    (omega (arith, pre .0), ((omega (arith, pre .1 .0 .1, p .kept), omega (arith, pre .1 .0 .2), omega (arith, pre .1 .0 .3)), p .ensures .1))
 
 pass-both-returns-3 : (t : ℕ) → pass-both-lts.Need-returns-3 (pass-both-calls t) (pass-both-at t) pass-both.Post
 pass-both-returns-3 t c =
-    let c₂ = c .before .before in
-    let c₅ = c₂ .before .before .before in
-    let c₆ = c₅ .before in
-    let c₇ = c₆ .before in
-    let c₁₀ = c₇ .before .before .before in
-    let c₁₃ = c₁₀ .before .before .before in
-    let g = c₁₃ .args in
-    both-passed (g .rows .now) (g .journal .now) (g .left - 1) (g .level + 1) (g .s) (g .q) (g .r) (c₁₀ .pass-up .ensures) (c₇ .if1 .left) (sym (c₆ .is-done .ensures) ∙ not-false _ (c₅ .if2 .left))
-    (c₁₀ .pass-up .kept .0) (c₁₀ .pass-up .kept .1 .0) (c₂ .pass-up2 .ensures)
+    let c₄ = c .before .before .before .before in
+    let c₈ = c₄ .before .before .before .before in
+    let c₉ = c₈ .before in
+    let c₁₀ = c₉ .before in
+    let c₁₅ = c₁₀ .before .before .before .before .before in
+    let c₂₀ = c₁₅ .before .before .before .before .before in
+    let g = c₂₀ .args in (
+      both-passed (g .rows .now) (g .journal .now) (g .left - 1) (g .level + 1) (g .s) (g .q) (g .r) (c₁₅ .pass-up .ensures .0) (c₁₀ .if1 .left) (sym (c₉ .is-done .ensures) ∙ not-false _ (c₈ .if2 .left))
+          (c₁₅ .pass-up .kept .0) (c₁₅ .pass-up .kept .1 .0) (c₄ .pass-up2 .ensures .0),
+      c₄ .pass-up2 .ensures .1,
+    )
 
 pass-up-returns : (t : ℕ) → pass-up-lts.Need-returns (pass-up-calls t) (pass-up-at t) pass-up.Post
 pass-up-returns t c =
     let c₁ = c .before in
-    let c₃ = c₁ .before .before in
-    let g = c₃ .args in
-    up-unfinished (g .rows .now) (g .journal .now) (up.treat (roomOf (g .rows .now) (g .journal .now)) (g .left - 1) (g .level + 1)) (g .s) (g .r) (c₁ .both-finished .ensures) (not-true _ (c .if1 .taken))
+    let c₄ = c₁ .before .before .before in
+    let g = c₄ .args in
+    (up-unfinished (g .rows .now) (g .journal .now) (up.treat (roomOf (g .rows .now) (g .journal .now)) (g .left - 1) (g .level + 1)) (g .s) (g .r) (c₁ .both-finished .ensures) (not-true _ (c .if1 .taken)), c₄ .pre .1 .1)
+
+pass-up-treat-requires : (t : ℕ) → pass-up-lts.Need-treat-requires (pass-up-calls t) (pass-up-at t) pass-up.Post
+pass-up-treat-requires t c κs =
+    let c₃ = c .before .before .before in
+    let c₉ = c₃ .before .before .before .before .before .before in
+    let pre = c₉ .pre in
+    (omega (arith, pre .0, pre .1 .0 .2), ((omega (arith, pre .1 .0 .1, pre .1 .0 .2), c₃ .as-edge .ensures .1), pre .1 .1))
 
 pass-up-returns-2 : (t : ℕ) → pass-up-lts.Need-returns-2 (pass-up-calls t) (pass-up-at t) pass-up.Post
 pass-up-returns-2 t c =
     let c₁ = c .before in
-    let c₄ = c₁ .before .before .before in
-    let c₇ = c₄ .before .before .before in
-    let c₉ = c₇ .before .before in
-    let c₁₀ = c₉ .before in
+    let c₆ = c₁ .before .before .before .before .before in
+    let c₁₀ = c₆ .before .before .before .before in
     let c₁₂ = c₁₀ .before .before in
-    let g = c₁₂ .args in
-    up-stopped (g .rows .now) (g .journal .now) (up.treat (roomOf (g .rows .now) (g .journal .now)) (g .left - 1) (g .level + 1)) (g .s) (g .r) (c₁₀ .both-finished .ensures) (not-false _ (c₉ .if1 .left))
-    (c₇ .as-edge .ensures .0) (c₄ .treat .ensures) (sym (c₁ .is-done .ensures) ∙ not-true _ (c .if2 .taken))
+    let c₁₃ = c₁₂ .before in
+    let c₁₆ = c₁₃ .before .before .before in
+    let g = c₁₆ .args in (
+      up-stopped (g .rows .now) (g .journal .now) (up.treat (roomOf (g .rows .now) (g .journal .now)) (g .left - 1) (g .level + 1)) (g .s) (g .r) (c₁₃ .both-finished .ensures) (not-false _ (c₁₂ .if1 .left))
+          (c₁₀ .as-edge .ensures .0) (c₆ .treat .ensures .0) (sym (c₁ .is-done .ensures) ∙ not-true _ (c .if2 .taken)),
+      c₆ .treat .ensures .1,
+    )
+
+pass-up-free-row-requires : (t : ℕ) → pass-up-lts.Need-free-row-requires (pass-up-calls t) (pass-up-at t) pass-up.Post
+pass-up-free-row-requires t c κs =
+    let c₇ = c .before .before .before .before .before .before .before in
+    let c₁₇ = c₇ .before .before .before .before .before .before .before .before .before .before in
+    omega (arith, c₁₇ .pre .1 .0 .0, c₇ .treat .kept)
 
 pass-up-returns-3 : (t : ℕ) → pass-up-lts.Need-returns-3 (pass-up-calls t) (pass-up-at t) pass-up.Post
 pass-up-returns-3 t c =
     let c₁ = c .before in
     let c₃ = c₁ .before .before in
     let c₄ = c₃ .before in
-    let c₇ = c₄ .before .before .before in
-    let c₁₀ = c₇ .before .before .before in
-    let c₁₂ = c₁₀ .before .before in
-    let c₁₃ = c₁₂ .before in
+    let c₉ = c₄ .before .before .before .before .before in
+    let c₁₃ = c₉ .before .before .before .before in
     let c₁₅ = c₁₃ .before .before in
-    let g = c₁₅ .args in
-    up-freed (g .rows .now) (g .journal .now) (up.treat (roomOf (g .rows .now) (g .journal .now)) (g .left - 1) (g .level + 1)) (g .s) (g .r) (c₁₃ .both-finished .ensures) (not-false _ (c₁₂ .if1 .left))
-    (c₁₀ .as-edge .ensures .0) (c₇ .treat .ensures) (sym (c₄ .is-done .ensures) ∙ not-false _ (c₃ .if2 .left)) (c₁ .free-row .ensures)
+    let c₁₆ = c₁₅ .before in
+    let c₁₉ = c₁₆ .before .before .before in
+    let g = c₁₉ .args in
+    let has : HasRow (c₉ .treat .last .0) (g .r) = omega (arith, c₁₉ .pre .1 .0 .0, c₉ .treat .kept .0) in (
+      up-freed (g .rows .now) (g .journal .now) (up.treat (roomOf (g .rows .now) (g .journal .now)) (g .left - 1) (g .level + 1)) (g .s) (g .r) (c₁₆ .both-finished .ensures) (not-false _ (c₁₅ .if1 .left))
+          (c₁₃ .as-edge .ensures .0) (c₉ .treat .ensures .0) (sym (c₄ .is-done .ensures) ∙ not-false _ (c₃ .if2 .left)) (c₁ .free-row .ensures),
+      rw (c₁ .free-row .ensures) (marked-freed (c₉ .treat .ensures .1) (g .r) has),
+    )
 
 treat-returns : (t : ℕ) → treat-lts.Need-returns (treat-calls t) (treat-at t) treat.Post
 treat-returns t c =
     let c₁ = c .before in
     let c₃ = c₁ .before .before in
     let c₄ = c₃ .before in
-    let c₆ = c₄ .before .before in
-    let g = c₆ .args in
-    treat-closed (g .rows .now) (g .journal .now) (g .left) (g .level) (g .s) (g .e) (c₄ .same .ensures) (c₃ .if1 .taken) (c₁ .close .ensures (g .rows .now))
+    let c₇ = c₄ .before .before .before in
+    let g = c₇ .args in
+    let e = c₁ .close .ensures (g .rows .now) in (
+      treat-closed (g .rows .now) (g .journal .now) (g .left) (g .level) (g .s) (g .e) (c₄ .same .ensures) (c₃ .if1 .taken) e,
+      marked-by e (rw (closing-peak (g .rows .now) (g .journal .now) (g .s) (g .level) (edgeOf (g .e))) (c₇ .pre .1 .1)),
+    )
 
 treat-returns-2 : (t : ℕ) → treat-lts.Need-returns-2 (treat-calls t) (treat-at t) treat.Post
 treat-returns-2 t c =
     let c₁ = c .before in
     let c₂ = c₁ .before in
     let c₃ = c₂ .before in
-    let c₅ = c₃ .before .before in
-    let g = c₅ .args in
-    c .ended .ensures (g .rows .now) (g .journal .now) ∙ treat-none-left (g .rows .now) (g .journal .now) (g .left) (g .level) (g .s) (g .e) (c₃ .same .ensures) (c₂ .if1 .left) (c₁ .if2 .taken)
+    let c₆ = c₃ .before .before .before in
+    let g = c₆ .args in
+    let e = c .ended .ensures (g .rows .now) (g .journal .now) in
+    (e ∙ treat-none-left (g .rows .now) (g .journal .now) (g .left) (g .level) (g .s) (g .e) (c₃ .same .ensures) (c₂ .if1 .left) (c₁ .if2 .taken), marked-by e (c₆ .pre .1 .1))
 
 -- what the three ways out behind the search share
 searched : (t : ℕ) (c : treat-lts.After-find (treat-calls t) (treat-at t) treat.Post) →
-    let c₂ = c .before .before in
-    let g = c₂ .before .before .before .before .before .before .args in
-    Searched (g .rows .now) (g .journal .now) (g .left) (g .level) (g .s) (g .e) (c₂ .before .side .result) (c₂ .bottom .result) (c .find .result)
+    let c₃ = c .before .before .before in
+    let g = c₃ .before .before .before .before .before .before .before .args in
+    Searched (g .rows .now) (g .journal .now) (g .left) (g .level) (g .s) (g .e) (c₃ .before .side .result) (c₃ .bottom .result) (c .find .result)
 searched t c =
-    let c₂ = c .before .before in
-    let c₃ = c₂ .before in
+    let c₃ = c .before .before .before in
     let c₄ = c₃ .before in
     let c₅ = c₄ .before in
+    let c₆ = c₅ .before in
     record {
-      apart = sym (c₅ .before .same .ensures) ∙ c₅ .if1 .left;
-      above = omega (arith, c₄ .if2 .left);
-      side-is = c₃ .side .ensures;
-      bottom-is = c₂ .bottom .ensures;
+      apart = sym (c₆ .before .same .ensures) ∙ c₆ .if1 .left;
+      above = omega (arith, c₅ .if2 .left);
+      side-is = c₄ .side .ensures;
+      bottom-is = c₃ .bottom .ensures;
       found-is = c .find .ensures;
     }
 
@@ -305,69 +376,98 @@ treat-returns-3 t c =
     let c₂ = c₁ .before in
     let c₄ = c₂ .before .before in
     let c₆ = c₄ .before .before in
-    c .ended2 .ensures _ _
-    ∙ treat-no-row (searched t (c₆ .before .before)) (c₆ .enum-told .given .1) (c₄ .lowest-free .ensures) (omega (arith, c₁ .if3 .taken, c₂ .rows-in .ensures))
+    let c₈ = c₆ .before .before in
+    let c₁₈ = c₈ .before .before .before .before .before .before .before .before .before .before in
+    let g = c₁₈ .args in
+    let e = c .ended2 .ensures (g .rows .now) (g .journal .now) in
+    (e ∙ treat-no-row (searched t c₈) (c₆ .enum-told .given .1) (c₄ .lowest-free .ensures) (omega (arith, c₁ .if3 .taken, c₂ .rows-in .ensures)), marked-by e (c₁₈ .pre .1 .1))
 
 treat-open-lowest-requires : (t : ℕ) → treat-lts.Need-open-lowest-requires (treat-calls t) (treat-at t) treat.Post
 treat-open-lowest-requires t c κs =
-    let c₁ = c .before in
-    let c₂ = c₁ .before in
-    let c₄ = c₂ .before .before in
-    let c₁₆ = c₄ .before .before .before .before .before .before .before .before .before .before .before .before in
-    let g = c₁₆ .args in
-    (omega (arith, c₁ .if3 .left, c₂ .rows-in .ensures), omega (arith, c₁₆ .pre .1 .0), lowest-is (g .rows .now) (g .s) (c₄ .lowest-free .ensures))
+    let c₂ = c .before .before in
+    let c₃ = c₂ .before in
+    let c₅ = c₃ .before .before in
+    let c₁₉ = c₅ .before .before .before .before .before .before .before .before .before .before .before .before .before .before in
+    let g = c₁₉ .args in
+    ((omega (arith, c₂ .if3 .left, c₃ .rows-in .ensures), omega (arith, c₁₉ .pre .1 .0 .0), lowest-is (g .rows .now) (g .s) (c₅ .lowest-free .ensures)), c₁₉ .pre .1 .1)
+
+treat-on-row-requires : (t : ℕ) → treat-lts.Need-on-row-requires (treat-calls t) (treat-at t) treat.Post
+treat-on-row-requires t c κs =
+    let c₆ = c .before .before .before .before .before .before in
+    let c₉ = c₆ .before .before .before in
+    let c₁₀ = c₉ .before in
+    let c₁₂ = c₁₀ .before .before in
+    let c₁₉ = c₁₂ .before .before .before .before .before .before .before in
+    let c₂₁ = c₁₉ .before .before in
+    let c₂₆ = c₂₁ .before .before .before .before .before in
+    let g = c₂₆ .args in
+    let o = c₆ .open-lowest in
+    let pre = c₂₆ .pre in
+    let has : HasRow (g .rows .now) (c₁₂ .lowest-free .result) = omega (arith, c₉ .if3 .left, c₁₀ .rows-in .ensures) in
+    let level = opened-level (g .rows .now) [] (g .s) (c₁₂ .lowest-free .result) (g .level) (c₁₉ .bottom .result) has (o .ensures .0 []) in
+    (omega (arith, pre .0), ((omega (arith, has, o .kept .0), level, omega (arith, pre .1 .0 .0), omega (arith, c₂₁ .if2 .left)), o .ensures .1))
 
 treat-returns-4 : (t : ℕ) → treat-lts.Need-returns-4 (treat-calls t) (treat-at t) treat.Post
 treat-returns-4 t c =
-    let c₂ = c .before .before in
-    let c₆ = c₂ .before .before .before .before in
-    let c₈ = c₆ .before .before in
-    let c₉ = c₈ .before in
-    let c₁₁ = c₉ .before .before in
-    let c₁₃ = c₁₁ .before .before in
-    treat-opened (searched t (c₁₃ .before .before)) (c₁₃ .enum-told .given .1) (c₁₁ .lowest-free .ensures) (omega (arith, c₈ .if3 .left, c₉ .rows-in .ensures))
-    (c₆ .open-lowest .ensures _) (c₆ .open-lowest .kept .0) (c₂ .on-row .ensures)
+    let c₄ = c .before .before .before .before in
+    let c₁₁ = c₄ .before .before .before .before .before .before .before in
+    let c₁₄ = c₁₁ .before .before .before in
+    let c₁₅ = c₁₄ .before in
+    let c₁₇ = c₁₅ .before .before in
+    let c₁₉ = c₁₇ .before .before in
+    let c₂₁ = c₁₉ .before .before in (
+      treat-opened (searched t c₂₁) (c₁₉ .enum-told .given .1) (c₁₇ .lowest-free .ensures) (omega (arith, c₁₄ .if3 .left, c₁₅ .rows-in .ensures))
+          (c₁₁ .open-lowest .ensures .0 _) (c₁₁ .open-lowest .kept .0) (c₄ .on-row .ensures .0),
+      c₄ .on-row .ensures .1,
+    )
 
 treat-on-row-requires-2 : (t : ℕ) → treat-lts.Need-on-row-requires-2 (treat-calls t) (treat-at t) treat.Post
 treat-on-row-requires-2 t c κs =
-    let c₃ = c .before .before .before in
-    let c₅ = c₃ .before .before in
-    let c₉ = c₅ .before .before .before .before in
-    let c₁₃ = c₉ .before .before .before .before in
-    let pre = c₁₃ .pre in
-    (omega (arith, pre .0), (found-there _ _ _ _ _ _ (sym (c₅ .find .ensures) ∙ c₃ .r .given .1), omega (arith, pre .1 .0), omega (arith, c₉ .if2 .left)))
+    let c₄ = c .before .before .before .before in
+    let c₆ = c₄ .before .before in
+    let c₁₁ = c₆ .before .before .before .before .before in
+    let c₁₆ = c₁₁ .before .before .before .before .before in
+    let pre = c₁₆ .pre in
+    let f = sym (c₆ .find .ensures) ∙ c₄ .r .given .1 in
+    (omega (arith, pre .0), ((found-there _ _ _ _ _ _ f, found-level _ _ _ _ _ _ f, omega (arith, pre .1 .0 .0), omega (arith, c₁₁ .if2 .left)), pre .1 .1))
 
 treat-returns-5 : (t : ℕ) → treat-lts.Need-returns-5 (treat-calls t) (treat-at t) treat.Post
 treat-returns-5 t c =
-    let c₂ = c .before .before in
-    let c₆ = c₂ .before .before .before .before in
-    treat-found (searched t (c₆ .before .before)) (c₆ .r .given .1) (c₂ .on-row2 .ensures)
+    let c₄ = c .before .before .before .before in
+    let c₉ = c₄ .before .before .before .before .before in
+    let c₁₁ = c₉ .before .before in
+    (treat-found (searched t c₁₁) (c₉ .r .given .1) (c₄ .on-row2 .ensures .0), c₄ .on-row2 .ensures .1)
 
 pub +on-row+pass-both+pass-up+treat-spec : {M : Type 1} → statement M
 +on-row+pass-both+pass-up+treat-spec =
     close μ-on-row μ-pass-both μ-pass-up μ-treat (λ t. on-row-lts.spec (on-row-calls t) (on-row-at t)
     on-row.Post
-    (search needs) (search needs) (search needs) (search needs) (on-row-returns t)
-    (search needs) (search needs) (search needs) (search needs) (search needs) (search needs) (search needs) (on-row-returns-2 t)
+    (λ c κs. search needs) (search needs) (search needs) (search needs) (search needs) (on-row-returns t)
+    (search needs) (search needs) (λ c κs. search needs) (search needs) (search needs) (search needs) (search needs) (search needs) (on-row-returns-2 t)
     (on-row-finish-requires t)
-    (search needs) (on-row-pass-both-requires t)
-    (search needs) (search needs) (on-row-returns-3 t))
+    (on-row-finish-requires-2 t)
+    (on-row-pass-both-requires t)
+    (λ c. on-row-lengths t c .0) (λ c. on-row-lengths t c .1) (λ c. on-row-lengths t c .2) (on-row-returns-3 t))
     (λ t. pass-both-lts.spec (pass-both-calls t) (pass-both-at t)
     pass-both.Post
-    (search needs) (search needs) (search needs) (pass-both-returns t)
-    (search needs) (search needs) (search needs) (pass-both-returns-2 t)
+    (λ c κs. search needs) (search needs) (search needs) (search needs) (pass-both-returns t)
+    (search needs) (search needs) (search needs) (search needs) (pass-both-returns-2 t)
+    (pass-both-pass-up-requires-2 t)
     (search needs) (search needs) (search needs) (pass-both-returns-3 t))
     (λ t. pass-up-lts.spec (pass-up-calls t) (pass-up-at t)
     pass-up.Post
     (search needs) (search needs) (pass-up-returns t)
-    (search needs) (search needs) (search needs) (search needs) (search needs) (search needs) (search needs) (pass-up-returns-2 t)
+    (search needs) (search needs) (search needs) (pass-up-treat-requires t)
+    (search needs) (search needs) (search needs) (search needs) (pass-up-returns-2 t)
+    (pass-up-free-row-requires t)
     (search needs) (search needs) (search needs) (pass-up-returns-3 t))
     λ t. treat-lts.spec (treat-calls t) (treat-at t)
     treat.Post
     (search needs) (search needs) (search needs) (treat-returns t)
     (search needs) (treat-returns-2 t)
-    (search needs) (search needs) (search needs) (search needs) (search needs) (search needs) (search needs) (search needs) (search needs) (treat-returns-3 t)
+    (search needs) (search needs) (λ c κs. search needs) (search needs) (search needs) (search needs) (search needs) (search needs) (search needs) (search needs) (treat-returns-3 t)
     (treat-open-lowest-requires t)
+    (treat-on-row-requires t)
     (search needs) (search needs) (search needs) (treat-returns-4 t)
     (treat-on-row-requires-2 t)
-    (search needs) (search needs) (treat-returns-5 t)
+    (search needs) (search needs) (search needs) (treat-returns-5 t)

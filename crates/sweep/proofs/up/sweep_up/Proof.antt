@@ -1,4 +1,5 @@
--- `sweep::up::sweep_up` meets its contract. The loop's invariant: the slices, the progress and the last edge are the steps' sweep of the edges so far, and it is not ended.
+-- `sweep::up::sweep_up` meets its contract. The loop's invariant: the slices, the progress and the last edge are the steps' sweep of the edges so far,
+-- it is not ended, and the marks are good; at the start there is no row to mark.
 use borrow.Author.Needs.{needs}
 use native.Mathlib.Omega.{arith}
 use Prim.Native.Nat.{_≤_, _-_, _+_}
@@ -7,6 +8,7 @@ use mathlib.Core.Bool.{true}
 use lib.ListN.{length}
 use borrow.Author.Tests.{not-true, not-false}
 use Rattle.steps.specs.SweepUp.{sweepUp, start}
+use Rattle.rows.specs.Marks.{Marked}
 use Rattle.sweep.specs.Slices.{roomOf, edgesOf, swept, isDone}
 use Rattle.sweep.proofs.Sweeping.{next-edge, sweep-stays, records-there}
 use Rattle.sweep.specs.declared.Swept.{Swept}
@@ -14,56 +16,57 @@ use Rattle.sweep.proofs.up.sweep_up.Statement.{statement}
 use Rattle.sweep.proofs.up.sweep_up.Tie as tie
 
 abbrev Inv-loop : tie.InvT-loop
-Inv-loop edges n journal₀ rows₀ s₀ edge₀ i₀ journal rows s edge i =
+Inv-loop edges n journal₀ rows₀ s₀ marks₀ edge₀ i₀ journal rows s marks edge i =
     (i ≤ n)
     × (length rows ≡ length rows₀)
     × (length journal ≡ length journal₀)
     × (swept rows journal (record { progress = s; edge = edge }) ≡ sweepUp (roomOf rows₀ journal₀) (edgesOf edges) (start rows₀ journal₀) i)
     × (isDone (s .end) ≡ true)
+    × Marked marks rows (s .peak)
 
 abbrev μ-loop : tie.MeasureT-loop
-μ-loop edges n journal₀ rows₀ s₀ edge₀ i₀ journal rows s edge i = n - i
+μ-loop edges n journal₀ rows₀ s₀ marks₀ edge₀ i₀ journal rows s marks edge i = n - i
 
 loop-holds : tie.Need-loop-holds Inv-loop μ-loop
 unfolding sweepUp
-loop-holds c = (search needs, search needs, search needs, refl, refl)
+loop-holds c = (search needs, search needs, search needs, refl, refl, record { sized = refl; starts = λ r h side. absurd (omega arith) })
 
 -- the edge treated is the sweep's next step
 treated : (c : tie.After-treat Inv-loop μ-loop) →
     let t = c .treat in
-    let c₅ = c .before .before .before .before .before in
-    let g = c₅ .before .args in
-    swept (t .last .0) (t .last .1 .0) (record { progress = t .result; edge = c₅ .loop .i })
-    ≡ sweepUp (roomOf (g .rows .now) (g .journal .now)) (edgesOf (g .edges .now)) (start (g .rows .now) (g .journal .now)) (c₅ .loop .i + 1)
+    let c₆ = c .before .before .before .before .before .before in
+    let g = c₆ .before .args in
+    swept (t .last .0) (t .last .1 .0) (record { progress = t .result; edge = c₆ .loop .i })
+    ≡ sweepUp (roomOf (g .rows .now) (g .journal .now)) (edgesOf (g .edges .now)) (start (g .rows .now) (g .journal .now)) (c₆ .loop .i + 1)
 treated c =
     let c₁ = c .before in
-    let c₅ = c₁ .before .before .before .before in
-    let g = c₅ .before .args in
-    let l = c₅ .loop in
+    let c₆ = c₁ .before .before .before .before .before in
+    let g = c₆ .before .args in
+    let l = c₆ .loop in
     next-edge (g .rows .now) (g .journal .now) (edgesOf (g .edges .now)) (l .i) {w = record { progress = l .s; edge = l .edge }} (l .inv .3) (l .inv .4) (l .inv .1) (l .inv .2)
-    (c₁ .list-edge .ensures .0) {p = c .treat .result} (c .treat .ensures)
+    (c₁ .list-edge .ensures .0) {p = c .treat .result} (c .treat .ensures .0)
 
 returns : tie.Need-returns Inv-loop μ-loop
 returns c =
     let c₁ = c .before in
-    let c₄ = c₁ .before .before .before in
-    let c₈ = c₄ .before .before .before .before in
-    let l = c₈ .before .loop in
-    let g = c₈ .before .before .args in
-    let w : Swept = record { progress = c₄ .treat .result; edge = l .i } in
+    let c₅ = c₁ .before .before .before .before in
+    let c₁₀ = c₅ .before .before .before .before .before in
+    let l = c₁₀ .before .loop in
+    let g = c₁₀ .before .before .args in
+    let w : Swept = record { progress = c₅ .treat .result; edge = l .i } in
     let e =
-    sweep-stays (g .rows .now) (g .journal .now) (edgesOf (g .edges .now)) (g .n) (l .i + 1) {w = w} (omega (arith, c₈ .loop-test .taken)) (treated c₄)
+    sweep-stays (g .rows .now) (g .journal .now) (edgesOf (g .edges .now)) (g .n) (l .i + 1) {w = w} (omega (arith, c₁₀ .loop-test .taken)) (treated c₅)
     (sym (c₁ .is-done .ensures) ∙ not-true _ (c .if1 .taken)) in
     (e, records-there (g .rows .now) (g .journal .now) (edgesOf (g .edges .now)) (g .n) w e)
 
 loop-again : tie.Need-loop-again Inv-loop μ-loop
 loop-again c =
     let c₁ = c .before in
-    let c₄ = c₁ .before .before .before in
-    let c₈ = c₄ .before .before .before .before in
-    let v = c₈ .before .loop .inv in
-    let k = c₄ .treat .kept in
-    (omega (arith, c₈ .loop-test .taken), omega (arith, v .1, k), omega (arith, v .2, k), treated c₄, sym (c₁ .is-done .ensures) ∙ not-false _ (c .if1 .left))
+    let c₅ = c₁ .before .before .before .before in
+    let c₁₀ = c₅ .before .before .before .before .before in
+    let v = c₁₀ .before .loop .inv in
+    let k = c₅ .treat .kept in
+    (omega (arith, c₁₀ .loop-test .taken), omega (arith, v .1, k), omega (arith, v .2, k), treated c₅, sym (c₁ .is-done .ensures) ∙ not-false _ (c .if1 .left), c₅ .treat .ensures .1)
 
 returns-2 : tie.Need-returns-2 Inv-loop μ-loop
 returns-2 c =
@@ -83,6 +86,6 @@ sweep-up-spec =
     Inv-loop
     μ-loop
     loop-holds
-    (search needs) (search needs) (search needs) (search needs) (search needs) returns
+    (search needs) (search needs) (λ c κs. search needs) (search needs) (search needs) (search needs) returns
     (search needs) (search needs) loop-again
     (search needs) (search needs) returns-2)
