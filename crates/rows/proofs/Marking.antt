@@ -4,7 +4,7 @@ use mathlib.Core.Path.{_≡_, refl, _∙_}
 use mathlib.Core.Bool.{true, false}
 use mathlib.Core.Logic.{⊎-elim}
 use mathlib.Core.List.{List}
-use Prim.Native.Nat.{ℕ, _+_, _-_, _≤_, _<_, max}
+use Prim.Native.Nat.{ℕ, _+_, _-_, _/_, _≤_, _<_, max}
 use native.Mathlib.Omega.{arith}
 use lib.IntN.{ℤ}
 use lib.ListN.{length, getD, length-set}
@@ -49,7 +49,7 @@ module _ (marks : List ℕ) (i r : ℕ) (there : i < length marks) where
   no-later : (j : ℕ) → startAt (markedIn marks i r) j ≤ startAt marks j
   unfolding startAt markedIn
   no-later j = ⊎-elim
-      (λ e. rw e (rw (getD-set-same marks i (max (getD marks i 0) (65535 - r)) 0 there) (omega arith)))
+      (λ e. rw e (rw (getD-set-same marks i (max (getD marks i 0) (255 - r / 4)) 0 there) (omega arith)))
       (λ d. rw (getD-set-other marks i j _ 0 d) (omega arith))
       (eq-or-ne j i)
 

@@ -1,6 +1,7 @@
 -- Marks beside the rows, a table of 16,384 numbers that spares searches. A tip's level, side and place give its slot, and the mark there says from which
--- row on a search for such a tip has to look. Marks count down from 65,535: 0, which all are at the start, says that no row before that one has such a tip.
-use Prim.Native.Nat.{ℕ, _+_, _-_, _*_, _%_, _≤_, _<_, max}
+-- row on a search for such a tip has to look. Marks count fours of rows, down from 255: 0, which all are at the start, says that none of the first 1,020
+-- rows has such a tip.
+use Prim.Native.Nat.{ℕ, _+_, _-_, _*_, _/_, _%_, _≤_, _<_, max}
 use mathlib.Core.Path.{_≡_}
 use mathlib.Core.List.{List}
 use lib.IntN.{ℤ}
@@ -26,11 +27,11 @@ slotOf level side p = (rank p % 16381 + level * 1021 + sideStep side) % slots
 
 -- the first row to look at
 unfoldable pub startAt : List ℕ → ℕ → ℕ
-startAt marks i = 65535 - getD marks i 0
+startAt marks i = 4 * (255 - getD marks i 0)
 
 -- a slot marked by row r: a lower row's mark stays
 unfoldable pub markedIn : List ℕ → ℕ → ℕ → List ℕ
-markedIn marks i r = set marks i (max (getD marks i 0) (65535 - r))
+markedIn marks i r = set marks i (max (getD marks i 0) (255 - r / 4))
 
 -- the slot of a row's tip
 abbrev pub tipSlot : List ℤ → ℕ → Side → ℕ

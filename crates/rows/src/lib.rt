@@ -66,7 +66,7 @@ fn has_tip(rows: &[i32], r: usize, level: u32, side: Side, tip: Point) -> bool
 }
 
 // The first row below the peak with such a tip. Its mark says where to start.
-pub fn find(rows: &[i32], marks: &[u16], peak: usize, level: u32, side: Side, tip: Point) -> Found
+pub fn find(rows: &[i32], marks: &[u8], peak: usize, level: u32, side: Side, tip: Point) -> Found
     requires { ⌜ (level < 2147483647) × Marked (now marks) (now rows) peak ⌝ }
     ensures { λ f. ⌜ f ≡ foundBelow (λ r. hasTip pointPlaces level side tip (lookRow (now (rows .entry)) r)) peak ⌝ }
 {

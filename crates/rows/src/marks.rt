@@ -3,15 +3,17 @@
 use sheet::Point;
 use steps::Side;
 ghost use mathlib.Core.Path.{_≡_};
-ghost use Prim.Native.Nat.{_-_, _<_, max};
+ghost use Prim.Native.Nat.{_-_, _*_, _<_, max};
 ghost use lib.ListN.{length};
 ghost use Rattle.rows.specs.Marks.{slots, slotOf, startAt, markedIn};
 
 // How many marks there are.
 pub const SLOTS: usize = 16_384;
 
-// Marks count down from here.
-const MOST: usize = 65_535;
+// Marks count fours of rows, down from here: one byte is enough, and a search looks at three rows too many at most.
+const MOST: usize = 255;
+
+const ROWS: usize = 4;
 
 // The slot of a tip.
 fn slot(level: u32, side: Side, tip: Point) -> usize
@@ -25,14 +27,14 @@ fn slot(level: u32, side: Side, tip: Point) -> usize
 }
 
 // The row that a mark tells.
-fn row_of(mark: u16) -> usize
-    ensures { λ r. ⌜ r ≡ 65535 - mark ⌝ }
+fn row_of(mark: u8) -> usize
+    ensures { λ r. ⌜ r ≡ 4 * (255 - mark) ⌝ }
 {
-    MOST - (mark as usize)
+    ROWS * (MOST - (mark as usize))
 }
 
 // The first row that a search for the tip has to look at.
-pub fn start(marks: &[u16], level: u32, side: Side, tip: Point) -> usize
+pub fn start(marks: &[u8], level: u32, side: Side, tip: Point) -> usize
     requires { ⌜ length (now marks) ≡ slots ⌝ }
     ensures { λ r. ⌜ r ≡ startAt (now (marks .entry)) (slotOf level side tip) ⌝ }
 {
@@ -40,18 +42,18 @@ pub fn start(marks: &[u16], level: u32, side: Side, tip: Point) -> usize
 }
 
 // The higher of two marks.
-fn higher_of(a: u16, b: u16) -> u16
+fn higher_of(a: u8, b: u8) -> u8
     ensures { λ n. ⌜ n ≡ max a b ⌝ }
 {
     if a < b { b } else { a }
 }
 
 // A row's tip marked, so that a search for it looks at the row.
-pub fn mark(marks: &mut [u16], level: u32, side: Side, tip: Point, r: usize)
+pub fn mark(marks: &mut [u8], level: u32, side: Side, tip: Point, r: usize)
     requires { ⌜ length (now marks) ≡ slots ⌝ }
     ensures { λ _. ⌜ now (marks .exit) ≡ markedIn (now (marks .entry)) (slotOf level side tip) r ⌝ }
 {
     let i = slot(level, side, tip);
-    let least = (MOST - laws::lower_of(r, MOST)) as u16;
+    let least = (MOST - laws::lower_of(r / ROWS, MOST)) as u8;
     marks[i] = higher_of(marks[i], least);
 }

@@ -47,7 +47,7 @@ fn close(journal: &mut [i32], s: Progress, level: u32, e: NamedEdge) -> Progress
 // The lowest free row opened at a place. As the rows below it are in use, its name tells the peak.
 fn open_lowest(
     rows: &mut [i32],
-    marks: &mut [u16],
+    marks: &mut [u8],
     s: Progress,
     r: usize,
     level: u32,
@@ -68,7 +68,7 @@ fn open_lowest(
 fn attach(
     rows: &mut [i32],
     journal: &mut [i32],
-    marks: &mut [u16],
+    marks: &mut [u8],
     s: Progress,
     level: u32,
     side: Side,
@@ -120,7 +120,7 @@ fn as_edge(rows: &[i32], r: usize) -> NamedEdge
 pub fn treat(
     rows: &mut [i32],
     journal: &mut [i32],
-    marks: &mut [u16],
+    marks: &mut [u8],
     s: Progress,
     level: u32,
     left: u32,
@@ -156,7 +156,7 @@ pub fn treat(
 fn on_row(
     rows: &mut [i32],
     journal: &mut [i32],
-    marks: &mut [u16],
+    marks: &mut [u8],
     s: Progress,
     level: u32,
     left: u32,
@@ -188,7 +188,7 @@ fn on_row(
 fn pass_both(
     rows: &mut [i32],
     journal: &mut [i32],
-    marks: &mut [u16],
+    marks: &mut [u8],
     s: Progress,
     level: u32,
     left: u32,
@@ -214,7 +214,7 @@ fn pass_both(
 fn pass_up(
     rows: &mut [i32],
     journal: &mut [i32],
-    marks: &mut [u16],
+    marks: &mut [u8],
     s: Progress,
     level: u32,
     left: u32,

@@ -42,7 +42,7 @@ pub fn sweep_up(edges: &[i32], n: usize, journal: &mut [i32], rows: &mut [i32]) 
         peak: 0,
         end: End::Done,
     };
-    let mut marks = [0u16; rows::marks::SLOTS];
+    let mut marks = [0u8; rows::marks::SLOTS];
     let mut edge: usize = 0;
     let mut i: usize = 0;
     while i < n {

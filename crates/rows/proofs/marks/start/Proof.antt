@@ -11,4 +11,4 @@ returns c = rw (c .row-of .ensures, c .before .before .slot .ensures .0)
 pub start-spec : {M : Type 1} → statement M
 start-spec =
     tie.close
-    (tie.spec (search needs) (search needs) (search needs) (search needs) returns)
+    (tie.spec (search needs) (search needs) (search needs) returns)
