@@ -16,7 +16,7 @@ use Rattle.sheet.specs.declared.Refusal.{Refusal}
 use Rattle.sheet.specs.declared.Refusal.the-variants.{NotWhole, TooMany, ListsDiffer, JournalShort, PastRange, EqualEnds, TopFalls, Repeated, Uneven}
 use Rattle.sheet.specs.declared.Check.{Check}
 use Rattle.sheet.specs.declared.Check.the-variants.{Passed, Refused}
-use Rattle.sheet.specs.Edges.{edgesIn, sheetOf}
+use Rattle.sheet.specs.Edges.{edgesIn, drawingOf}
 use Rattle.sheet.specs.Answers.{Call, notWhole, tooMany, listsDiffer, journalShort, pastRange, equalEnds, topFalls, edgeFault, faultOf, repeats, uneven, refuseIf, refuseFirst, checked}
 
 -- none of 1 to 4
@@ -40,9 +40,9 @@ pub data Row (c : Call) : Check → Type 0 where
   row-5 : {e : ℕ} → LengthsFit c → IsFirst (edgeFault (c .list)) (edgesIn (c .list)) e → pastRange (c .list) e ≡ true → Row c (Refused (PastRange e))
   row-6 : {e : ℕ} → LengthsFit c → IsFirst (edgeFault (c .list)) (edgesIn (c .list)) e → pastRange (c .list) e ≡ false → equalEnds (c .list) e ≡ true → Row c (Refused (EqualEnds e))
   row-7 : {e : ℕ} → LengthsFit c → IsFirst (edgeFault (c .list)) (edgesIn (c .list)) e → pastRange (c .list) e ≡ false → equalEnds (c .list) e ≡ false → topFalls (c .list) e ≡ true → Row c (Refused (TopFalls e))
-  row-8 : {e : ℕ} → LengthsFit c → NoneBelow (edgeFault (c .list)) (edgesIn (c .list)) → IsFirst (repeats (sheetOf (c .list))) (edgesIn (c .list)) e → Row c (Refused (Repeated e))
-  row-9 : {e : ℕ} → LengthsFit c → NoneBelow (edgeFault (c .list)) (edgesIn (c .list)) → NoneBelow (repeats (sheetOf (c .list))) (edgesIn (c .list)) → IsFirst (uneven (sheetOf (c .list))) (edgesIn (c .list)) e → Row c (Refused (Uneven e))
-  no-row : LengthsFit c → NoneBelow (edgeFault (c .list)) (edgesIn (c .list)) → NoneBelow (repeats (sheetOf (c .list))) (edgesIn (c .list)) → NoneBelow (uneven (sheetOf (c .list))) (edgesIn (c .list)) → Row c Passed
+  row-8 : {e : ℕ} → LengthsFit c → NoneBelow (edgeFault (c .list)) (edgesIn (c .list)) → IsFirst (repeats (drawingOf (c .list))) (edgesIn (c .list)) e → Row c (Refused (Repeated e))
+  row-9 : {e : ℕ} → LengthsFit c → NoneBelow (edgeFault (c .list)) (edgesIn (c .list)) → NoneBelow (repeats (drawingOf (c .list))) (edgesIn (c .list)) → IsFirst (uneven (drawingOf (c .list))) (edgesIn (c .list)) e → Row c (Refused (Uneven e))
+  no-row : LengthsFit c → NoneBelow (edgeFault (c .list)) (edgesIn (c .list)) → NoneBelow (repeats (drawingOf (c .list))) (edgesIn (c .list)) → NoneBelow (uneven (drawingOf (c .list))) (edgesIn (c .list)) → Row c Passed
 
 -- a test decides between a refusal and the rest
 module _ (P : Check → Type 0) where
@@ -78,6 +78,6 @@ row c =
     tried (Row c) (journalShort c) (row-4 w m o) (λ j.
     let l : LengthsFit c = record { whole = w; few = m; one-each = o; long = j } in
     tried-all (Row c) (edgeFault (c .list)) (edgesIn (c .list)) (faultOf (c .list)) (λ e f. fault-row c e l f) (λ f.
-    tried-all (Row c) (repeats (sheetOf (c .list))) (edgesIn (c .list)) Repeated (λ e h. row-8 l f h) (λ r.
-    tried-all (Row c) (uneven (sheetOf (c .list))) (edgesIn (c .list)) Uneven (λ e h. row-9 l f r h) (λ u.
+    tried-all (Row c) (repeats (drawingOf (c .list))) (edgesIn (c .list)) Repeated (λ e h. row-8 l f h) (λ r.
+    tried-all (Row c) (uneven (drawingOf (c .list))) (edgesIn (c .list)) Uneven (λ e h. row-9 l f r h) (λ u.
     no-row l f r u)))))))

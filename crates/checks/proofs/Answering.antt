@@ -13,7 +13,7 @@ use Rattle.sheet.specs.declared.Refusal.{Refusal}
 use Rattle.sheet.specs.declared.Refusal.the-variants.{NotWhole, TooMany, ListsDiffer, JournalShort, Repeated, Uneven}
 use Rattle.sheet.specs.declared.Check.{Check}
 use Rattle.sheet.specs.declared.Check.the-variants.{Passed, Refused}
-use Rattle.sheet.specs.Edges.{edgesIn, sheetOf}
+use Rattle.sheet.specs.Edges.{edgesIn, drawingOf}
 use Rattle.sheet.specs.Answers.{Call, notWhole, tooMany, listsDiffer, journalShort, edgeFault, faultOf, repeats, uneven, refuseFirst, checked}
 use Rattle.checks.specs.Faults.{Faultless}
 use Rattle.checks.specs.KindsChecked.{kindsChecked}
@@ -29,19 +29,19 @@ module _ (test : ℕ → Bool) (n f : ℕ) (found : f ≡ first test n) where
   pub none-found : n ≤ f → (k : ℕ) → k < n → test k ≡ false
   none-found l k h = first-least test n k (omega (arith, found))
 
-module _ (s : List ℤ) (n r : ℕ) (found : r ≡ first (repeats (sheetOf s)) n) where
+module _ (s : List ℤ) (n r : ℕ) (found : r ≡ first (repeats (drawingOf s)) n) where
   pub on-repeat : r < n → Refused (Repeated r) ≡ kindsChecked s n
   unfolding kindsChecked
-  on-repeat l = refuse-here (repeats (sheetOf s)) n r found Repeated _ l
+  on-repeat l = refuse-here (repeats (drawingOf s)) n r found Repeated _ l
 
-  module _ (none : n ≤ r) (u : ℕ) (found-next : u ≡ first (uneven (sheetOf s)) n) where
+  module _ (none : n ≤ r) (u : ℕ) (found-next : u ≡ first (uneven (drawingOf s)) n) where
     pub on-uneven : u < n → Refused (Uneven u) ≡ kindsChecked s n
     unfolding kindsChecked
-    on-uneven l = refuse-here (uneven (sheetOf s)) n u found-next Uneven Passed l ∙ refuse-not (repeats (sheetOf s)) n r found Repeated _ none
+    on-uneven l = refuse-here (uneven (drawingOf s)) n u found-next Uneven Passed l ∙ refuse-not (repeats (drawingOf s)) n r found Repeated _ none
 
     pub on-passed : n ≤ u → Passed ≡ kindsChecked s n
     unfolding kindsChecked
-    on-passed l = refuse-not (uneven (sheetOf s)) n u found-next Uneven Passed l ∙ refuse-not (repeats (sheetOf s)) n r found Repeated _ none
+    on-passed l = refuse-not (uneven (drawingOf s)) n u found-next Uneven Passed l ∙ refuse-not (repeats (drawingOf s)) n r found Repeated _ none
 
 module _ (s : List ℤ) (polygons sequences journal : ℕ) where
   abbrev call : Call

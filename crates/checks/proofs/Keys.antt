@@ -17,7 +17,7 @@ use Rattle.sheet.specs.declared.Point.{Point}
 use Rattle.sheet.specs.declared.Edge.{Edge}
 use Rattle.sheet.specs.Points.{inRange, isBelow, isUp, topOf, bottomOf}
 use Rattle.sheet.specs.Rank.{rank}
-use Rattle.sheet.specs.Edges.{edgeAt, sheetOf}
+use Rattle.sheet.specs.Edges.{edgeAt, drawingOf}
 use Rattle.sheet.specs.Answers.{topFalls}
 use Rattle.sheet.proofs.Ranks.{rank-below, rank-same, rank-small}
 use Rattle.checks.specs.Faults.{Faultless}
@@ -26,8 +26,8 @@ use Rattle.checks.proofs.EdgeFaults.{tail-in-range, head-in-range, top-
 
 -- which way an edge goes, and what its keys are
 pub data Goes (s : List ℤ) (e : ℕ) : Type 0 where
-  up : sheetOf s .tail e < sheetOf s .head e → topKey s e ≡ 2 * sheetOf s .head e + 1 → bottomKey s e ≡ 2 * sheetOf s .tail e + 1 → Goes s e
-  down : sheetOf s .head e < sheetOf s .tail e → topKey s e ≡ 2 * sheetOf s .tail e → bottomKey s e ≡ 2 * sheetOf s .head e → Goes s e
+  up : drawingOf s .tail e < drawingOf s .head e → topKey s e ≡ 2 * drawingOf s .head e + 1 → bottomKey s e ≡ 2 * drawingOf s .tail e + 1 → Goes s e
+  down : drawingOf s .head e < drawingOf s .tail e → topKey s e ≡ 2 * drawingOf s .tail e → bottomKey s e ≡ 2 * drawingOf s .head e → Goes s e
 
 top-rank : (s : List ℤ) (e : ℕ) → topKey s e / 2 ≡ rank (topOf (edgeAt s e))
 unfolding topKey
@@ -57,7 +57,7 @@ module _ {s : List ℤ} {n : ℕ} (F : Faultless s n) where
   bottom-in e l = bottom-in-range _ (tail-in e l) (head-in e l)
 
   pub goes : (e : ℕ) → e < n → Goes s e
-  unfolding topKey bottomKey topOf bottomOf sheetOf isUp
+  unfolding topKey bottomKey topOf bottomOf drawingOf isUp
   goes e l = by (isBelow tail head) refl
     where
       tail : Point

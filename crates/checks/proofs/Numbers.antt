@@ -11,7 +11,7 @@ use borrow.Author.Tests.{ne-eqb}
 use Rattle.laws.specs.Counting.{bit, count}
 use Rattle.laws.proofs.Tests.{or-swap, eqb-agree}
 use Rattle.laws.proofs.Either.{count-either}
-use Rattle.sheet.specs.Edges.{sheetOf}
+use Rattle.sheet.specs.Edges.{drawingOf}
 use Rattle.sheet.specs.Kinds.{arriving, leaving, numberAt}
 use Rattle.sheet.specs.Answers.{differ, uneven}
 use Rattle.checks.specs.Faults.{Faultless}
@@ -20,38 +20,38 @@ use Rattle.checks.specs.Meetings.{keysAt}
 use Rattle.checks.proofs.Keys.{Goes, up, down, goes}
 
 module _ (s : List ℤ) (e : ℕ) where
-  arrives : (p : ℕ) → Goes s e → bit (eqb (sheetOf s .head e) p) ≡ bit (eqb (topKey s e) (2 * p + 1)) + bit (eqb (bottomKey s e) (2 * p))
-  arrives p (up l t b) = rw (eqb-agree (sheetOf s .head e) p (topKey s e) (2 * p + 1) (λ h. omega arith) (λ h. omega arith), ne-eqb (bottomKey s e) (2 * p) (λ h. omega arith)) (omega arith)
-  arrives p (down l t b) = rw (eqb-agree (sheetOf s .head e) p (bottomKey s e) (2 * p) (λ h. omega arith) (λ h. omega arith), ne-eqb (topKey s e) (2 * p + 1) (λ h. omega arith)) (omega arith)
+  arrives : (p : ℕ) → Goes s e → bit (eqb (drawingOf s .head e) p) ≡ bit (eqb (topKey s e) (2 * p + 1)) + bit (eqb (bottomKey s e) (2 * p))
+  arrives p (up l t b) = rw (eqb-agree (drawingOf s .head e) p (topKey s e) (2 * p + 1) (λ h. omega arith) (λ h. omega arith), ne-eqb (bottomKey s e) (2 * p) (λ h. omega arith)) (omega arith)
+  arrives p (down l t b) = rw (eqb-agree (drawingOf s .head e) p (bottomKey s e) (2 * p) (λ h. omega arith) (λ h. omega arith), ne-eqb (topKey s e) (2 * p + 1) (λ h. omega arith)) (omega arith)
 
-  leaves : (p : ℕ) → Goes s e → bit (eqb (sheetOf s .tail e) p) ≡ bit (eqb (topKey s e) (2 * p)) + bit (eqb (bottomKey s e) (2 * p + 1))
-  leaves p (up l t b) = rw (eqb-agree (sheetOf s .tail e) p (bottomKey s e) (2 * p + 1) (λ h. omega arith) (λ h. omega arith), ne-eqb (topKey s e) (2 * p) (λ h. omega arith)) (omega arith)
-  leaves p (down l t b) = rw (eqb-agree (sheetOf s .tail e) p (topKey s e) (2 * p) (λ h. omega arith) (λ h. omega arith), ne-eqb (bottomKey s e) (2 * p + 1) (λ h. omega arith)) (omega arith)
+  leaves : (p : ℕ) → Goes s e → bit (eqb (drawingOf s .tail e) p) ≡ bit (eqb (topKey s e) (2 * p)) + bit (eqb (bottomKey s e) (2 * p + 1))
+  leaves p (up l t b) = rw (eqb-agree (drawingOf s .tail e) p (bottomKey s e) (2 * p + 1) (λ h. omega arith) (λ h. omega arith), ne-eqb (topKey s e) (2 * p) (λ h. omega arith)) (omega arith)
+  leaves p (down l t b) = rw (eqb-agree (drawingOf s .tail e) p (topKey s e) (2 * p) (λ h. omega arith) (λ h. omega arith), ne-eqb (bottomKey s e) (2 * p + 1) (λ h. omega arith)) (omega arith)
 
-  ends-uneven : Goes s e → uneven (sheetOf s) e ≡ (differ (sheetOf s) (topKey s e / 2) || differ (sheetOf s) (bottomKey s e / 2))
+  ends-uneven : Goes s e → uneven (drawingOf s) e ≡ (differ (drawingOf s) (topKey s e / 2) || differ (drawingOf s) (bottomKey s e / 2))
   unfolding uneven
   ends-uneven (up l t b) =
-      let x : topKey s e / 2 ≡ sheetOf s .head e = omega arith in
-      let y : bottomKey s e / 2 ≡ sheetOf s .tail e = omega arith in
-      rw (x, y) (or-swap (differ (sheetOf s) (sheetOf s .tail e)) (differ (sheetOf s) (sheetOf s .head e)))
+      let x : topKey s e / 2 ≡ drawingOf s .head e = omega arith in
+      let y : bottomKey s e / 2 ≡ drawingOf s .tail e = omega arith in
+      rw (x, y) (or-swap (differ (drawingOf s) (drawingOf s .tail e)) (differ (drawingOf s) (drawingOf s .head e)))
   ends-uneven (down l t b) =
-      let x : topKey s e / 2 ≡ sheetOf s .tail e = omega arith in
-      let y : bottomKey s e / 2 ≡ sheetOf s .head e = omega arith in
+      let x : topKey s e / 2 ≡ drawingOf s .tail e = omega arith in
+      let y : bottomKey s e / 2 ≡ drawingOf s .head e = omega arith in
       rw (x, y)
 
 module _ {s : List ℤ} {n : ℕ} (F : Faultless s n) where
-  pub uneven-ends : (e : ℕ) → e < n → uneven (sheetOf s) e ≡ (differ (sheetOf s) (topKey s e / 2) || differ (sheetOf s) (bottomKey s e / 2))
+  pub uneven-ends : (e : ℕ) → e < n → uneven (drawingOf s) e ≡ (differ (drawingOf s) (topKey s e / 2) || differ (drawingOf s) (bottomKey s e / 2))
   uneven-ends e l = ends-uneven s e (goes F e l)
 
   module _ (p : ℕ) where
-    arriving-is : numberAt (sheetOf s) arriving p ≡ keysAt (topKey s) (2 * p + 1) n + keysAt (bottomKey s) (2 * p) n
-    unfolding numberAt sheetOf
-    arriving-is = ap (count (λ e. eqb (sheetOf s .head e) p)) (sym (F .all)) ∙ count-either (λ e. eqb (topKey s e) (2 * p + 1)) (λ e. eqb (bottomKey s e) (2 * p)) (λ e. eqb (sheetOf s .head e) p) n (λ e l. arrives s e p (goes F e l))
+    arriving-is : numberAt (drawingOf s) arriving p ≡ keysAt (topKey s) (2 * p + 1) n + keysAt (bottomKey s) (2 * p) n
+    unfolding numberAt drawingOf
+    arriving-is = ap (count (λ e. eqb (drawingOf s .head e) p)) (sym (F .all)) ∙ count-either (λ e. eqb (topKey s e) (2 * p + 1)) (λ e. eqb (bottomKey s e) (2 * p)) (λ e. eqb (drawingOf s .head e) p) n (λ e l. arrives s e p (goes F e l))
 
-    leaving-is : numberAt (sheetOf s) leaving p ≡ keysAt (topKey s) (2 * p) n + keysAt (bottomKey s) (2 * p + 1) n
-    unfolding numberAt sheetOf
-    leaving-is = ap (count (λ e. eqb (sheetOf s .tail e) p)) (sym (F .all)) ∙ count-either (λ e. eqb (topKey s e) (2 * p)) (λ e. eqb (bottomKey s e) (2 * p + 1)) (λ e. eqb (sheetOf s .tail e) p) n (λ e l. leaves s e p (goes F e l))
+    leaving-is : numberAt (drawingOf s) leaving p ≡ keysAt (topKey s) (2 * p) n + keysAt (bottomKey s) (2 * p + 1) n
+    unfolding numberAt drawingOf
+    leaving-is = ap (count (λ e. eqb (drawingOf s .tail e) p)) (sym (F .all)) ∙ count-either (λ e. eqb (topKey s e) (2 * p)) (λ e. eqb (bottomKey s e) (2 * p + 1)) (λ e. eqb (drawingOf s .tail e) p) n (λ e l. leaves s e p (goes F e l))
 
-    pub differ-by-keys : not (eqb (keysAt (topKey s) (2 * p + 1) n + keysAt (bottomKey s) (2 * p) n) (keysAt (topKey s) (2 * p) n + keysAt (bottomKey s) (2 * p + 1) n)) ≡ differ (sheetOf s) p
+    pub differ-by-keys : not (eqb (keysAt (topKey s) (2 * p + 1) n + keysAt (bottomKey s) (2 * p) n) (keysAt (topKey s) (2 * p) n + keysAt (bottomKey s) (2 * p + 1) n)) ≡ differ (drawingOf s) p
     unfolding differ
     differ-by-keys = rw (arriving-is, leaving-is)

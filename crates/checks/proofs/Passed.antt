@@ -16,7 +16,7 @@ use Rattle.laws.proofs.First.{none-below}
 use Rattle.laws.proofs.Searching.{NoneBelow}
 use Rattle.sheet.specs.declared.Check.the-variants.{Passed}
 use Rattle.sheet.specs.Points.{inRange}
-use Rattle.sheet.specs.Edges.{edgeAt, edgesIn, sheetOf, SweepOrder}
+use Rattle.sheet.specs.Edges.{edgeAt, edgesIn, drawingOf, SweepOrder}
 use Rattle.sheet.specs.Kinds.{Way, arriving, leaving, From, below, above, endOf, comes, numberAt}
 use Rattle.sheet.specs.Answers.{Call, notWhole, tooMany, listsDiffer, journalShort, sameFrom, sameKind, repeats, differ, uneven, checked}
 use Rattle.sheet.proofs.Checked.{Checked}
@@ -33,68 +33,68 @@ pub record AllPassed (c : Call) : Type 0 where
   pub journal : 8 * edgesIn (c .list) ≤ c .journal
   pub tails-in-range : (e : ℕ) → e < edgesIn (c .list) → inRange (edgeAt (c .list) e .tail) ≡ true
   pub heads-in-range : (e : ℕ) → e < edgesIn (c .list) → inRange (edgeAt (c .list) e .head) ≡ true
-  pub sheet : Checked (sheetOf (c .list))
+  pub sheet : Checked (drawingOf (c .list))
 
 -- 8 is not given: no two edges of one kind at one place
-module _ (s : List ℤ) (once : NoneBelow (repeats (sheetOf s)) (edgesIn s)) where
-  earlier : (w : Way) (e f : ℕ) → e < f → f < edgesIn s → endOf (sheetOf s) w e ≡ endOf (sheetOf s) w f → comes (sheetOf s) w e ≡ comes (sheetOf s) w f → ⊥
+module _ (s : List ℤ) (once : NoneBelow (repeats (drawingOf s)) (edgesIn s)) where
+  earlier : (w : Way) (e f : ℕ) → e < f → f < edgesIn s → endOf (drawingOf s) w e ≡ endOf (drawingOf s) w f → comes (drawingOf s) w e ≡ comes (drawingOf s) w f → ⊥
   unfolding repeats sameKind
   earlier w e f l h p q = by w p q (neither-true _ _ (none-below _ f (once f h) e l))
     where
-      alike : (w : Way) → endOf (sheetOf s) w e ≡ endOf (sheetOf s) w f → comes (sheetOf s) w e ≡ comes (sheetOf s) w f → sameKind (sheetOf s) w f e ≡ true
-      alike w p q = rw (eq-eqb (endOf (sheetOf s) w f) (endOf (sheetOf s) w e) (sym p), q) (self (comes (sheetOf s) w f))
+      alike : (w : Way) → endOf (drawingOf s) w e ≡ endOf (drawingOf s) w f → comes (drawingOf s) w e ≡ comes (drawingOf s) w f → sameKind (drawingOf s) w f e ≡ true
+      alike w p q = rw (eq-eqb (endOf (drawingOf s) w f) (endOf (drawingOf s) w e) (sym p), q) (self (comes (drawingOf s) w f))
         where
           self : (a : From) → sameFrom a a ≡ true
           self below = refl
           self above = refl
 
-      by : (w : Way) → endOf (sheetOf s) w e ≡ endOf (sheetOf s) w f → comes (sheetOf s) w e ≡ comes (sheetOf s) w f → (sameKind (sheetOf s) arriving f e ≡ false) × (sameKind (sheetOf s) leaving f e ≡ false) → ⊥
+      by : (w : Way) → endOf (drawingOf s) w e ≡ endOf (drawingOf s) w f → comes (drawingOf s) w e ≡ comes (drawingOf s) w f → (sameKind (drawingOf s) arriving f e ≡ false) × (sameKind (drawingOf s) leaving f e ≡ false) → ⊥
       by arriving p q n = not-both (alike arriving p q) (n .0)
       by leaving p q n = not-both (alike leaving p q) (n .1)
 
-  single : (w : Way) (e f : ℕ) → e < edgesIn s → f < edgesIn s → endOf (sheetOf s) w e ≡ endOf (sheetOf s) w f → comes (sheetOf s) w e ≡ comes (sheetOf s) w f → e ≡ f
+  single : (w : Way) (e f : ℕ) → e < edgesIn s → f < edgesIn s → endOf (drawingOf s) w e ≡ endOf (drawingOf s) w f → comes (drawingOf s) w e ≡ comes (drawingOf s) w f → e ≡ f
   single w e f el fl p q = ⊎-elim (λ l. absurd (earlier w e f l fl p q)) (λ l. ⊎-elim (λ m. absurd (earlier w f e m el (sym p) (sym q))) (λ m. omega arith) (lt-or-le f e)) (lt-or-le e f)
 
 -- 9 is not given: at a place with an edge as many arrive as leave, and where there is none both are 0
-module _ (s : List ℤ) (level : NoneBelow (uneven (sheetOf s)) (edgesIn s)) (p : ℕ) where
-  differ-not : differ (sheetOf s) p ≡ false → numberAt (sheetOf s) arriving p ≡ numberAt (sheetOf s) leaving p
+module _ (s : List ℤ) (level : NoneBelow (uneven (drawingOf s)) (edgesIn s)) (p : ℕ) where
+  differ-not : differ (drawingOf s) p ≡ false → numberAt (drawingOf s) arriving p ≡ numberAt (drawingOf s) leaving p
   unfolding differ
   differ-not h = eqb-true _ _ (not-false _ h)
 
-  at-end : (e : ℕ) → e < edgesIn s → (w : Way) → endOf (sheetOf s) w e ≡ p → differ (sheetOf s) p ≡ false
+  at-end : (e : ℕ) → e < edgesIn s → (w : Way) → endOf (drawingOf s) w e ≡ p → differ (drawingOf s) p ≡ false
   unfolding uneven
-  at-end e l arriving q = ap (differ (sheetOf s)) (sym q) ∙ neither-true (differ (sheetOf s) (sheetOf s .tail e)) _ (level e l) .1
-  at-end e l leaving q = ap (differ (sheetOf s)) (sym q) ∙ neither-true _ (differ (sheetOf s) (sheetOf s .head e)) (level e l) .0
+  at-end e l arriving q = ap (differ (drawingOf s)) (sym q) ∙ neither-true (differ (drawingOf s) (drawingOf s .tail e)) _ (level e l) .1
+  at-end e l leaving q = ap (differ (drawingOf s)) (sym q) ∙ neither-true _ (differ (drawingOf s) (drawingOf s .head e)) (level e l) .0
 
-  nobody : differ (sheetOf s) p ≡ true → (w : Way) → numberAt (sheetOf s) w p ≡ 0
-  unfolding numberAt sheetOf
+  nobody : differ (drawingOf s) p ≡ true → (w : Way) → numberAt (drawingOf s) w p ≡ 0
+  unfolding numberAt drawingOf
   nobody h w = count-none _ (edgesIn s) (λ e l. ne-eqb _ _ (λ q. not-both h (at-end e l w q)))
 
-  even : numberAt (sheetOf s) arriving p ≡ numberAt (sheetOf s) leaving p
-  even = ⊎-elim (λ h. nobody h arriving ∙ sym (nobody h leaving)) differ-not (true-or-false (differ (sheetOf s) p))
+  even : numberAt (drawingOf s) arriving p ≡ numberAt (drawingOf s) leaving p
+  even = ⊎-elim (λ h. nobody h arriving ∙ sym (nobody h leaving)) differ-not (true-or-false (differ (drawingOf s) p))
 
 -- 5 to 7 are not given
 module _ {s : List ℤ} (F : Faultless s (edgesIn s)) where
-  proper : (e : ℕ) → e < edgesIn s → sheetOf s .tail e ≡ sheetOf s .head e → ⊥
+  proper : (e : ℕ) → e < edgesIn s → drawingOf s .tail e ≡ drawingOf s .head e → ⊥
   proper e l q = by (goes F e l)
     where
       by : Goes s e → ⊥
       by (up h t b) = omega arith
       by (down h t b) = omega arith
 
-  top-height : (e : ℕ) → e < edgesIn s → topKey s e / 2 ≡ max (sheetOf s .tail e) (sheetOf s .head e)
+  top-height : (e : ℕ) → e < edgesIn s → topKey s e / 2 ≡ max (drawingOf s .tail e) (drawingOf s .head e)
   top-height e l = by (goes F e l)
     where
-      by : Goes s e → topKey s e / 2 ≡ max (sheetOf s .tail e) (sheetOf s .head e)
+      by : Goes s e → topKey s e / 2 ≡ max (drawingOf s .tail e) (drawingOf s .head e)
       by (up h t b) = omega arith
       by (down h t b) = omega arith
 
-  order : SweepOrder (sheetOf s)
-  unfolding sheetOf
+  order : SweepOrder (drawingOf s)
+  unfolding drawingOf
   order e l = omega (arith, top-height e (omega arith), top-height (e + 1) l, tops-rise F e (e + 1) (omega arith) l)
 
-pub sheet-checked : (s : List ℤ) → Faultless s (edgesIn s) → NoneBelow (repeats (sheetOf s)) (edgesIn s) → NoneBelow (uneven (sheetOf s)) (edgesIn s) → Checked (sheetOf s)
-unfolding sheetOf
+pub sheet-checked : (s : List ℤ) → Faultless s (edgesIn s) → NoneBelow (repeats (drawingOf s)) (edgesIn s) → NoneBelow (uneven (drawingOf s)) (edgesIn s) → Checked (drawingOf s)
+unfolding drawingOf
 sheet-checked s F once level = record {
   flat = λ p q f h. h;
   one-film = λ e l. refl;

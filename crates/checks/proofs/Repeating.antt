@@ -12,7 +12,7 @@ use Rattle.laws.proofs.Either.{first-either}
 use Rattle.sheet.specs.declared.Point.{Point}
 use Rattle.sheet.specs.declared.Edge.{Edge}
 use Rattle.sheet.specs.Points.{isUp, topOf}
-use Rattle.sheet.specs.Edges.{edgeAt, sheetOf}
+use Rattle.sheet.specs.Edges.{edgeAt, drawingOf}
 use Rattle.sheet.specs.Answers.{repeats}
 use Rattle.checks.specs.Faults.{Faultless}
 use Rattle.checks.specs.Keys.{topKey, bottomKey, hasTop, keyIn, placeIn, Ordered}
@@ -55,7 +55,7 @@ pub next-told : (words : List ℕ) (k : ℕ) → 0 < k → eqb (keyIn words (k -
 unfolding nextTwin
 next-told words k pos = rw (lt-ltb 0 k pos)
 
-pub first-repeat-is : {s : List ℤ} {words : List ℕ} {n : ℕ} → Faultless s n → Ordered s words n → {top low : ℕ} → top ≡ first (twin (topKey s)) n → Least (nextTwin (keyIn words)) (placeIn words) n n low → min top low ≡ first (repeats (sheetOf s)) n
+pub first-repeat-is : {s : List ℤ} {words : List ℕ} {n : ℕ} → Faultless s n → Ordered s words n → {top low : ℕ} → top ≡ first (twin (topKey s)) n → Least (nextTwin (keyIn words)) (placeIn words) n n low → min top low ≡ first (repeats (drawingOf s)) n
 first-repeat-is {s} {words} {n} F O {top} {low} t b =
     let q : low ≡ first (twin (bottomKey s)) n = least-first (twin (bottomKey s)) (next-twin F O) (place-onto F O) b in
-    rw (t, q) (first-either (twin (topKey s)) (twin (bottomKey s)) (repeats (sheetOf s)) n (repeats-twin F))
+    rw (t, q) (first-either (twin (topKey s)) (twin (bottomKey s)) (repeats (drawingOf s)) n (repeats-twin F))

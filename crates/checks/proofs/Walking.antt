@@ -15,7 +15,7 @@ use Rattle.laws.proofs.Deciding.{lt-or-le, true-or-false, not-both}
 use Rattle.laws.proofs.Tests.{or-true}
 use Rattle.laws.proofs.Counting.{count-none, count-from}
 use Rattle.laws.proofs.First.{first-is}
-use Rattle.sheet.specs.Edges.{sheetOf}
+use Rattle.sheet.specs.Edges.{drawingOf}
 use Rattle.sheet.specs.Answers.{differ, uneven}
 use Rattle.checks.specs.declared.meetings.Gathered.{Gathered}
 use Rattle.checks.specs.Keys.{topKey, bottomKey, keyIn, placeIn}
@@ -84,10 +84,10 @@ module _ {test : ℕ → Bool} {key edge : ℕ → ℕ} {n limit least p : ℕ} 
 -- Along both lists, up to one limit: the least is an edge with an end at an uneven place, or n.
 pub record Walked (s : List ℤ) (words : List ℕ) (n : ℕ) (tops bottoms : Gathered) (least : ℕ) : Type 0 where
   pub limit : ℕ
-  pub top : Side (differ (sheetOf s)) (topKey s) (λ e. e) n limit least tops
-  pub bottom : Side (differ (sheetOf s)) (keyIn words) (placeIn words) n limit least bottoms
+  pub top : Side (differ (drawingOf s)) (topKey s) (λ e. e) n limit least tops
+  pub bottom : Side (differ (drawingOf s)) (keyIn words) (placeIn words) n limit least bottoms
   pub within : least ≤ n
-  pub some : least < n → uneven (sheetOf s) least ≡ true
+  pub some : least < n → uneven (drawingOf s) least ≡ true
 
 pub walked-none : {s : List ℤ} {words : List ℕ} {n a b : ℕ} {tops bottoms : Gathered} → a ≡ keyFrom (topKey s) n 0 → tops ≡ noneYet 0 a n → b ≡ keyFrom (keyIn words) n 0 → bottoms ≡ noneYet 0 b n → Walked s words n tops bottoms n
 walked-none qa zt qb zb = record { limit = 0; top = side-start qa zt; bottom = side-start qb zb; within = omega arith; some = λ l. absurd (omega arith) }
@@ -108,7 +108,7 @@ module _ {s : List ℤ} {words : List ℕ} {n : ℕ} (R : Ready s words n) {tops
           (λ h. omega (arith, T .0 .on .within, B .0 .on .within, T .0 .from, B .0 .from, moves (W .bottom) B (omega arith)))
           (lt-or-le (tops .key) (bottoms .key))
 
-      differ-told : not (eqb (t .ups + b .downs) (t .downs + b .ups)) ≡ differ (sheetOf s) p
+      differ-told : not (eqb (t .ups + b .downs) (t .downs + b .ups)) ≡ differ (drawingOf s) p
       differ-told =
           let rt = tops-rise (R .faultless) in
           let rb = keys-rise (R .faultless) (R .ordered) in
@@ -121,19 +121,19 @@ module _ {s : List ℤ} {words : List ℕ} {n : ℕ} (R : Ready s words n) {tops
           (differ-by-keys (R .faultless) p)
 
       -- an edge with a top or a bottom there
-      top-uneven : differ (sheetOf s) p ≡ true → t .least < n → uneven (sheetOf s) (t .least) ≡ true
+      top-uneven : differ (drawingOf s) p ≡ true → t .least < n → uneven (drawingOf s) (t .least) ≡ true
       top-uneven d m =
           let v = T .0 .some m in
-          let here : differ (sheetOf s) (topKey s (t .least) / 2) ≡ true = ap (λ e. differ (sheetOf s) (topKey s e / 2)) (sym (v .3)) ∙ ap (differ (sheetOf s)) (T .0 .here (v .0) (v .1) (v .2)) ∙ d in
-          uneven-ends (R .faultless) (t .least) m ∙ ap (λ (x : Bool). x || differ (sheetOf s) (bottomKey s (t .least) / 2)) here
+          let here : differ (drawingOf s) (topKey s (t .least) / 2) ≡ true = ap (λ e. differ (drawingOf s) (topKey s e / 2)) (sym (v .3)) ∙ ap (differ (drawingOf s)) (T .0 .here (v .0) (v .1) (v .2)) ∙ d in
+          uneven-ends (R .faultless) (t .least) m ∙ ap (λ (x : Bool). x || differ (drawingOf s) (bottomKey s (t .least) / 2)) here
 
-      bottom-uneven : differ (sheetOf s) p ≡ true → b .least < n → uneven (sheetOf s) (b .least) ≡ true
+      bottom-uneven : differ (drawingOf s) p ≡ true → b .least < n → uneven (drawingOf s) (b .least) ≡ true
       bottom-uneven d m =
           let v = B .0 .some m in
           let kn : v .0 < n = omega (arith, v .2, B .0 .on .within) in
           let key : bottomKey s (b .least) ≡ keyIn words (v .0) = ap (bottomKey s) (sym (v .3)) ∙ sym (key-at (R .faultless) (R .ordered) (v .0) kn) in
-          let here : differ (sheetOf s) (bottomKey s (b .least) / 2) ≡ true = ap (λ (k : ℕ). differ (sheetOf s) (k / 2)) key ∙ ap (differ (sheetOf s)) (B .0 .here (v .0) (v .1) (v .2)) ∙ d in
-          uneven-ends (R .faultless) (b .least) m ∙ ap (λ (x : Bool). differ (sheetOf s) (topKey s (b .least) / 2) || x) here ∙ or-true (differ (sheetOf s) (topKey s (b .least) / 2))
+          let here : differ (drawingOf s) (bottomKey s (b .least) / 2) ≡ true = ap (λ (k : ℕ). differ (drawingOf s) (k / 2)) key ∙ ap (differ (drawingOf s)) (B .0 .here (v .0) (v .1) (v .2)) ∙ d in
+          uneven-ends (R .faultless) (b .least) m ∙ ap (λ (x : Bool). differ (drawingOf s) (topKey s (b .least) / 2) || x) here ∙ or-true (differ (drawingOf s) (topKey s (b .least) / 2))
 
       -- what the least edge there is
       at-place : (d : Bool) → not (eqb (t .ups + b .downs) (t .downs + b .ups)) ≡ d → leastUneven t b n ≡ cond d (min (t .least) (b .least)) n
@@ -144,9 +144,9 @@ module _ {s : List ℤ} {words : List ℕ} {n : ℕ} (R : Ready s words n) {tops
           by false d q = rw (sym q)
 
       pub walked-more : {less : ℕ} → less ≡ min least (leastUneven t b n) → Walked s words n t b less
-      walked-more {less} q = ⊎-elim yes no (true-or-false (differ (sheetOf s) p))
+      walked-more {less} q = ⊎-elim yes no (true-or-false (differ (drawingOf s) p))
         where
-          on : less ≤ least → (differ (sheetOf s) p ≡ true → less ≤ min (t .least) (b .least)) → (less < n → uneven (sheetOf s) less ≡ true) → Walked s words n t b less
+          on : less ≤ least → (differ (drawingOf s) p ≡ true → less ≤ min (t .least) (b .least)) → (less < n → uneven (drawingOf s) less ≡ true) → Walked s words n t b less
           on a u h = record {
             limit = p + 1;
             top = side-on (W .top) T (tops-rise (R .faultless)) low (omega arith) rank-fits a (λ d. omega (arith, u d));
@@ -155,24 +155,24 @@ module _ {s : List ℤ} {words : List ℕ} {n : ℕ} (R : Ready s words n) {tops
             some = h;
           }
 
-          yes : differ (sheetOf s) p ≡ true → Walked s words n t b less
+          yes : differ (drawingOf s) p ≡ true → Walked s words n t b less
           yes d =
               let m : less ≡ min least (min (t .least) (b .least)) = q ∙ ap (min least) (at-place true (differ-told ∙ d)) in
               on (omega arith) (λ e. omega arith) (λ h. ⊎-elim
-              (λ x. let e : less ≡ least = omega arith in ap (uneven (sheetOf s)) e ∙ W .some (omega arith))
+              (λ x. let e : less ≡ least = omega arith in ap (uneven (drawingOf s)) e ∙ W .some (omega arith))
               (λ x. ⊎-elim
-              (λ y. let e : less ≡ t .least = omega arith in ap (uneven (sheetOf s)) e ∙ top-uneven d (omega arith))
-              (λ y. let e : less ≡ b .least = omega arith in ap (uneven (sheetOf s)) e ∙ bottom-uneven d (omega arith))
+              (λ y. let e : less ≡ t .least = omega arith in ap (uneven (drawingOf s)) e ∙ top-uneven d (omega arith))
+              (λ y. let e : less ≡ b .least = omega arith in ap (uneven (drawingOf s)) e ∙ bottom-uneven d (omega arith))
               (lt-or-le (t .least) (b .least)))
               (lt-or-le least (min (t .least) (b .least))))
 
-          no : differ (sheetOf s) p ≡ false → Walked s words n t b less
+          no : differ (drawingOf s) p ≡ false → Walked s words n t b less
           no d =
               let m : less ≡ least = q ∙ ap (min least) (at-place false (differ-told ∙ d)) ∙ omega (arith, W .within) in
-              on (omega arith) (λ e. absurd (not-both e d)) (λ h. ap (uneven (sheetOf s)) m ∙ W .some (omega arith))
+              on (omega arith) (λ e. absurd (not-both e d)) (λ h. ap (uneven (drawingOf s)) m ∙ W .some (omega arith))
 
-  pub walked-all : n ≤ tops .past → least ≡ first (uneven (sheetOf s)) n
-  walked-all l = first-is (uneven (sheetOf s)) n least (W .within) (W .some) none
+  pub walked-all : n ≤ tops .past → least ≡ first (uneven (drawingOf s)) n
+  walked-all l = first-is (uneven (drawingOf s)) n least (W .within) (W .some) none
     where
       all-passed : (k : ℕ) → k < n → k < bottoms .past
       all-passed k m = ⊎-elim (λ h. h) (λ h. absurd (above h)) (lt-or-le k (bottoms .past))
@@ -190,13 +190,13 @@ module _ {s : List ℤ} {words : List ℕ} {n : ℕ} (R : Ready s words n) {tops
                 W .top .behind (placeIn words k) (omega (arith, e)),
               )
 
-      none : (e : ℕ) → e < least → uneven (sheetOf s) e ≡ false
+      none : (e : ℕ) → e < least → uneven (drawingOf s) e ≡ false
       none e m =
           let en : e < n = omega (arith, W .within) in
           let v = place-onto (R .faultless) (R .ordered) e en in
           let key : keyIn words (v .0) ≡ bottomKey s e = key-at (R .faultless) (R .ordered) (v .0) (v .1) ∙ ap (bottomKey s) (v .2) in
           rw (
             uneven-ends (R .faultless) e en,
-            ⊎-elim (λ d. absurd (omega (arith, W .top .under e (omega arith) d))) (λ d. d) (true-or-false (differ (sheetOf s) (topKey s e / 2))),
+            ⊎-elim (λ d. absurd (omega (arith, W .top .under e (omega arith) d))) (λ d. d) (true-or-false (differ (drawingOf s) (topKey s e / 2))),
           )
-          (⊎-elim (λ d. absurd (omega (arith, v .2, W .bottom .under (v .0) (all-passed (v .0) (v .1)) (ap (λ (k : ℕ). differ (sheetOf s) (k / 2)) key ∙ d)))) (λ d. d) (true-or-false (differ (sheetOf s) (bottomKey s e / 2))))
+          (⊎-elim (λ d. absurd (omega (arith, v .2, W .bottom .under (v .0) (all-passed (v .0) (v .1)) (ap (λ (k : ℕ). differ (drawingOf s) (k / 2)) key ∙ d)))) (λ d. d) (true-or-false (differ (drawingOf s) (bottomKey s e / 2))))

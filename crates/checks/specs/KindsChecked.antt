@@ -5,8 +5,8 @@ use lib.IntN.{ℤ}
 use Rattle.sheet.specs.declared.Refusal.the-variants.{Repeated, Uneven}
 use Rattle.sheet.specs.declared.Check.{Check}
 use Rattle.sheet.specs.declared.Check.the-variants.{Passed}
-use Rattle.sheet.specs.Edges.{sheetOf}
+use Rattle.sheet.specs.Edges.{drawingOf}
 use Rattle.sheet.specs.Answers.{repeats, uneven, refuseFirst}
 
 unfoldable pub kindsChecked : List ℤ → ℕ → Check
-kindsChecked s n = refuseFirst (repeats (sheetOf s)) n Repeated (refuseFirst (uneven (sheetOf s)) n Uneven Passed)
+kindsChecked s n = refuseFirst (repeats (drawingOf s)) n Repeated (refuseFirst (uneven (drawingOf s)) n Uneven Passed)

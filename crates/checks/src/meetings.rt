@@ -8,7 +8,7 @@ ghost use mathlib.Core.Path.{_≡_};
 ghost use Prim.Native.Nat.{_*_, _/_, _<_, _≤_, min};
 ghost use lib.ListN.{length};
 ghost use Rattle.laws.specs.Counting.{first};
-ghost use Rattle.sheet.specs.Edges.{sheetOf};
+ghost use Rattle.sheet.specs.Edges.{drawingOf};
 ghost use Rattle.sheet.specs.Answers.{uneven};
 ghost use Rattle.checks.specs.Faults.{Faultless};
 ghost use Rattle.checks.specs.Keys.{topKey, keyIn, placeIn};
@@ -131,7 +131,7 @@ fn least_uneven(tops: Gathered, bottoms: Gathered, n: usize) -> usize
 // As each edge's bottom is below its top, no place is left when the tops are passed.
 pub fn first_uneven(edges: &[i32], words: &[u64], n: usize) -> usize
     requires { ⌜ Ready (now edges) (now words) n ⌝ }
-    ensures { λ r. ⌜ r ≡ first (uneven (sheetOf (now (edges .entry)))) n ⌝ }
+    ensures { λ r. ⌜ r ≡ first (uneven (drawingOf (now (edges .entry)))) n ⌝ }
 {
     let mut least = n;
     let mut tops = none_yet(0, top_key(edges, n, 0), n);

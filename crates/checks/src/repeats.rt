@@ -9,7 +9,7 @@ ghost use Prim.Native.Nat.{_/_, _%_, _<_, _≤_};
 ghost use lib.Dec.{eqb};
 ghost use lib.ListN.{length};
 ghost use Rattle.laws.specs.Counting.{first};
-ghost use Rattle.sheet.specs.Edges.{sheetOf};
+ghost use Rattle.sheet.specs.Edges.{drawingOf};
 ghost use Rattle.sheet.specs.Answers.{repeats};
 ghost use Rattle.checks.specs.Faults.{Faultless};
 ghost use Rattle.checks.specs.Keys.{topKey, keyIn, placeIn, Ordered};
@@ -77,7 +77,7 @@ fn first_bottom_again(words: &[u64], n: usize) -> usize
 
 pub fn first_repeat(edges: &[i32], words: &[u64], n: usize) -> usize
     requires { ⌜ Faultless (now edges) n × Ordered (now edges) (now words) n × (n ≤ length (now words)) ⌝ }
-    ensures { λ r. ⌜ r ≡ first (repeats (sheetOf (now (edges .entry)))) n ⌝ }
+    ensures { λ r. ⌜ r ≡ first (repeats (drawingOf (now (edges .entry)))) n ⌝ }
 {
     laws::lower_of(first_top_again(edges, n), first_bottom_again(words, n))
 }

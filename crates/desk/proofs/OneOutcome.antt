@@ -7,10 +7,10 @@ use Rattle.sheet.specs.TurnList.{turned}
 use Rattle.numbering.specs.Outcome.{Lent}
 use Rattle.turns.proofs.OneTurnList.{one-outcome}
 use Rattle.desk.specs.declared.Turned.{Turned}
-use Rattle.desk.specs.Exported.{Exported, Exports, ReadTurns, leftBy}
+use Rattle.desk.specs.Exported.{Exported, Exports, ReadTurns, byNumbers}
 
 pub one-numbering : (l : Lent) {x y : Exported} → Exports l x → Exports l y → x ≡ y
-one-numbering l a b = a .same ∙ ap leftBy (a .promised .outcome-is ∙ sym (b .promised .outcome-is)) ∙ sym (b .same)
+one-numbering l a b = a .same ∙ ap byNumbers (a .promised .outcome-is ∙ sym (b .promised .outcome-is)) ∙ sym (b .same)
 
 pub one-reading : (polygons sequences before : List ℕ) {s t : List ℕ} {x y : Turned}
     → ReadTurns polygons sequences before s x → ReadTurns polygons sequences before t y → (x ≡ y) × (s ≡ t)

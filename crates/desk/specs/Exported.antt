@@ -31,17 +31,17 @@ pub record Exported : Type 0 where
   pub journal : List ℤ
   pub rows : List ℤ
 
-abbrev pub left : Sheet → List ℕ → List ℕ → List ℤ → List ℤ → Exported
-left sheet polygons sequences journal rows = record { sheet = sheet; polygons = polygons; sequences = sequences; journal = journal; rows = rows }
+abbrev pub exported : Sheet → List ℕ → List ℕ → List ℤ → List ℤ → Exported
+exported sheet polygons sequences journal rows = record { sheet = sheet; polygons = polygons; sequences = sequences; journal = journal; rows = rows }
 
-abbrev pub leftBy : Left → Exported
-leftBy x = left (sheetFrom (x .answer)) (x .polygons) (x .sequences) (x .journal) (x .rows)
+abbrev pub byNumbers : Left → Exported
+byNumbers x = exported (sheetFrom (x .answer)) (x .polygons) (x .sequences) (x .journal) (x .rows)
 
 -- a call's exported answer: what the numbering promises of the call, by its numbers
 pub record Exports (l : Lent) (y : Exported) : Type 0 where
   pub inner : Left
   pub promised : Promised l inner
-  pub same : y ≡ leftBy inner
+  pub same : y ≡ byNumbers inner
 
 -- the turn list as it is left, and the answer by its numbers
 pub record ReadTurns (polygons sequences before after : List ℕ) (r : Turned) : Type 0 where

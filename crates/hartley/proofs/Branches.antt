@@ -7,7 +7,7 @@ use Prim.Native.Nat.{ℕ, _+_}
 use Rattle.laws.proofs.Deciding.{eq-or-ne}
 use Rattle.steps.specs.declared.Side.{Side}
 use Rattle.steps.specs.declared.Side.the-variants.{Rising, Falling}
-use Rattle.steps.specs.Rows.{otherSide, Both, on, with, Branch, Row, Edge}
+use Rattle.steps.specs.Rows.{otherSide, Both, on, with, Branch, Row, LevelEdge}
 use Rattle.steps.specs.SweepUp.{top}
 use Rattle.steps.specs.Plain as plain
 use Rattle.steps.specs.Plain.{withBranch, finishedBranch}
@@ -19,10 +19,10 @@ use Rattle.hartley.proofs.Invariant.{side-cases}
 use Rattle.hartley.proofs.Tables.{Table}
 
 -- step 3, and the ends that step 4 finishes
-abbrev pub longerBranch : Side → Row ℕ → Edge ℕ → Branch ℕ
+abbrev pub longerBranch : Side → Row ℕ → LevelEdge ℕ → Branch ℕ
 longerBranch s v e = record { tip = top s e; length = on s (v .branch) .length + e .length .falling + e .length .rising; finished = false }
 
-abbrev pub lengthened : Side → Table → ℕ → Edge ℕ → Table
+abbrev pub lengthened : Side → Table → ℕ → LevelEdge ℕ → Table
 lengthened s T r e = plain.put T r (withBranch (T r) s (longerBranch s (T r) e))
 
 abbrev pub marked : Side → Row ℕ → Row ℕ

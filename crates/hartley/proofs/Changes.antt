@@ -9,16 +9,16 @@ use native.Mathlib.Omega.{arith}
 use lib.IntN.{pos}
 use borrow.Author.Tests.{lt-ltb, le-leb}
 use Rattle.laws.proofs.Deciding.{not-both}
-use Rattle.sheet.specs.Edges.{Sheet}
+use Rattle.sheet.specs.Edges.{Drawing}
 use Rattle.steps.specs.declared.Side.{Side}
 use Rattle.steps.specs.declared.Found.the-variants.{At, Nothing}
 use Rattle.steps.specs.declared.End.the-variants.{Overrun}
-use Rattle.steps.specs.Rows.{otherSide, on, Row, Record, Edge, Room, closing}
+use Rattle.steps.specs.Rows.{otherSide, on, Row, Record, LevelEdge, Room, closing}
 use Rattle.steps.specs.SweepUp as up
 use Rattle.steps.specs.SweepUp.{State, hasTip, signed, mostLength}
 use Rattle.steps.specs.Plain as plain
 use Rattle.steps.specs.Plain.{plainTable, plainJournal, newRow, freeRow}
-use Rattle.hartley.specs.Swept.{placesOf, roomOf}
+use Rattle.hartley.specs.Swept.{placesOf, plainRoom}
 use Rattle.laws.proofs.Lowest.{lowest-is}
 use Rattle.hartley.proofs.Down.{Rec, put, close, ofRow, nameAt}
 use Rattle.hartley.proofs.Reading.{recs, recs-written}
@@ -37,9 +37,9 @@ tableOf s = view (s .rows) (s .peak)
 abbrev pub journalOf : Work → List Rec
 journalOf s = recs (s .journal) (s .records)
 
-module _ (sh : Sheet) (n m : ℕ) where
+module _ (sh : Drawing) (n m : ℕ) where
   abbrev room : Room ℕ (ℕ → Row ℕ) (ℕ → Record)
-  room = roomOf sh n m
+  room = plainRoom sh n m
 
   -- steps 1 and 4
   pub find-at : (s : Work) (level : ℕ) (side : Side) (p r : ℕ) → up.find room s level side p ≡ At r → (r < s .peak) × HasTip (tableOf s) side level p r
@@ -92,7 +92,7 @@ module _ (sh : Sheet) (n m : ℕ) where
     open-journal = (refl, refl, refl)
 
   -- steps 2 and 3, where there is room
-  module _ (s : Work) (level : ℕ) (side : Side) (e : Edge ℕ) (r : ℕ) where
+  module _ (s : Work) (level : ℕ) (side : Side) (e : LevelEdge ℕ) (r : ℕ) where
     abbrev pub attached : Work
     attached = up.move room (up.write room s (up.chainRecord room level side (up.look room s r) e r)) r side (up.top side e) (up.longer room side (up.look room s r) e)
 
@@ -141,7 +141,7 @@ module _ (sh : Sheet) (n m : ℕ) where
   free-rest s r = (refl, refl, refl, refl)
 
   -- a closing edge
-  module _ (s : Work) (level : ℕ) (e : Edge ℕ) where
+  module _ (s : Work) (level : ℕ) (e : LevelEdge ℕ) where
     abbrev pub closed : Work
     closed = up.write room s (record { level = level; name = e .name; chain = closing; offset = pos (e .length .falling) })
 

@@ -9,7 +9,7 @@ use lib.IntN.{pos}
 use Rattle.laws.proofs.Deciding.{eq-or-ne, not-both}
 use Rattle.steps.specs.declared.Side.{Side}
 use Rattle.steps.specs.declared.Side.the-variants.{Rising, Falling}
-use Rattle.steps.specs.Rows.{on, Edge}
+use Rattle.steps.specs.Rows.{on, LevelEdge}
 use Rattle.steps.specs.SweepUp.{top}
 use Rattle.hartley.proofs.Plan.{Plan, Lawful, tip}
 use Rattle.hartley.proofs.Down.{ofRow, Rec, close}
@@ -28,7 +28,7 @@ module _ {sh : Plan} (N : Lawful sh) {p m : ℕ} (n : ℕ) (E : Time sh p m) whe
   St T J B G = State sh p m n T J B G
 
   -- an edge whose ends are equal closes an outline
-  module _ {T : Table} {J : List Rec} {B : Naming} {G : Paths} (I : St T J B G) {l : ℕ} {e : Edge ℕ} (P : Pre sh p m T B G (suc l) e) (K : Clean (suc l) T B G) (ends : e .tail ≡ e .head) where
+  module _ {T : Table} {J : List Rec} {B : Naming} {G : Paths} (I : St T J B G) {l : ℕ} {e : LevelEdge ℕ} (P : Pre sh p m T B G (suc l) e) (K : Clean (suc l) T B G) (ends : e .tail ≡ e .head) where
     abbrev x : Owner
     x = row (B .now (e .name))
 

@@ -7,7 +7,7 @@ use Prim.Native.Nat.{ℕ, zero, suc, _+_, _-_}
 use native.Mathlib.Decide.{ℕ-discrete}
 use native.Mathlib.Nat.{add-zero, suc-add, add-suc}
 use lib.IntN.{ℤ, pos, _+ℤ_, +ℤ-assoc, +ℤ-idr}
-use Rattle.steps.specs.SweepDown.{Numbers}
+use Rattle.steps.specs.SweepDown.{Pair}
 
 -- what the records call an edge of any level: an edge of the list, or the row that it came from
 pub data Name : Type 0 where
@@ -34,16 +34,16 @@ unfoldable pub same-name? : (x y : Name) → Dec (x ≡ y)
 same-name? = Name-discrete ℕ-discrete
 
 abbrev pub Table : Type 0
-Table = Name → Numbers
+Table = Name → Pair
 
 unfoldable pub pick : {P A : Type 0} → Dec P → A → A → A
 pick (yes p) a b = a
 pick (no p) a b = b
 
-unfoldable pub write : Table → Name → Numbers → Table
+unfoldable pub write : Table → Name → Pair → Table
 write T o v x = pick (same-name? x o) v (T x)
 
-unfoldable pub shift : Numbers → ℤ → Numbers
+unfoldable pub shift : Pair → ℤ → Pair
 shift a k = record { polygon = a .polygon; sequence = a .sequence +ℤ k }
 
 unfoldable pub down : List Rec → Table → ℕ → Table
@@ -64,11 +64,11 @@ place [] x = at x (pos 0)
 place (r ∷ J) x = move r (place J x)
 
 -- what a place says, read from the table and the counter that the sweep down starts from
-unfoldable pub eval : Table → ℕ → Place → Numbers
+unfoldable pub eval : Table → ℕ → Place → Pair
 eval T c (at x i) = shift (T x) i
 eval T c (done k i) = record { polygon = c + k; sequence = i }
 
-shift-shift : (a : Numbers) (k i : ℤ) → shift (shift a k) i ≡ shift a (k +ℤ i)
+shift-shift : (a : Pair) (k i : ℤ) → shift (shift a k) i ≡ shift a (k +ℤ i)
 unfolding shift
 shift-shift a k i = rw (+ℤ-assoc (a .sequence) k i)
 

@@ -12,7 +12,7 @@ use Rattle.steps.specs.declared.Side.the-variants.{Rising, Falling}
 use Rattle.steps.specs.declared.Found.{Found}
 use Rattle.steps.specs.declared.Found.the-variants.{At, Nothing}
 use Rattle.steps.specs.declared.End.the-variants.{Done, NoFreeRow}
-use Rattle.steps.specs.Rows.{otherSide, on, Row, Record, Edge, Room}
+use Rattle.steps.specs.Rows.{otherSide, on, Row, Record, LevelEdge, Room}
 use Rattle.steps.specs.SweepUp as up
 use Rattle.steps.specs.SweepUp.{bottom, top, signed}
 use Rattle.steps.specs.Plain.{plainTable, newRow}
@@ -66,7 +66,7 @@ module _ (A : Setting) {p h : ℕ} (E : Time (plan A) p h) where
     full : s .end ≡ NoFreeRow → Crowded → Outcome s l Q
 
   -- one edge in hand, with k rows
-  module _ (k : ℕ) (s : Work) (B : Naming) (G : Paths) (level : ℕ) (e : Edge ℕ) (I : State sh p h k (tableOf s) (journalOf s) B G) (P : Pre sh p h (tableOf s) B G level e) (C : Clean level (tableOf s) B G)
+  module _ (k : ℕ) (s : Work) (B : Naming) (G : Paths) (level : ℕ) (e : LevelEdge ℕ) (I : State sh p h k (tableOf s) (journalOf s) B G) (P : Pre sh p h (tableOf s) B G level e) (C : Clean level (tableOf s) B G)
       (counted : edgeBit (nameAt level (e .name)) + listed (journalOf s) ≤ A .sheet .edges) (side : Side) (goes : height sh (bottom side e) < height sh (top side e)) where
     abbrev pub x : Owner
     x = ownerOf B level (e .name)

@@ -11,7 +11,7 @@ use borrow.Author.Tests.{eq-eqb, eqb-true}
 use Rattle.laws.proofs.Deciding.{lt-or-le}
 use Rattle.laws.proofs.Counting.{count-le}
 use Rattle.sheet.specs.Joining.{Follows}
-use Rattle.sheet.specs.Passing.{passing, edgesOf, Enough}
+use Rattle.sheet.specs.Passing.{passing, outlineSize, Enough}
 use Rattle.sheet.proofs.Checked.{joins}
 use Rattle.steps.specs.declared.End.the-variants.{Done, NoFreeRow}
 use Rattle.steps.specs.Rows.{Row, Record}
@@ -35,8 +35,8 @@ twelve-each A t j lent = ⊎-elim (λ d. d) (λ d. absurd (refused d)) (sweep-en
 
 module _ (A : Setting) (polygon : ℕ → ℕ) (shared : (e f : ℕ) → Follows (A .sheet) e f → polygon f ≡ polygon e) where
   -- an outline with room for a level has one polygon number
-  levels-few : (L log : ℕ) → ((k : ℕ) → edgesOf (A .sheet) polygon k ≤ L) → L < 2 ^ suc log → (l : ℕ) → weight.Room (plan A) l → l ≤ log
-  unfolding edgesOf
+  levels-few : (L log : ℕ) → ((k : ℕ) → outlineSize (A .sheet) polygon k ≤ L) → L < 2 ^ suc log → (l : ℕ) → weight.Room (plan A) l → l ≤ log
+  unfolding outlineSize
   levels-few L log most under l r =
       let many = room-many (laws A) l r (λ e. eqb (polygon e) (polygon (r .0))) (eq-eqb (polygon (r .0)) (polygon (r .0)) refl) (λ e h t. eq-eqb (polygon (joins (A .checked .sound) .next e)) (polygon (r .0)) (shared e _ (joins (A .checked .sound) .follows e h) ∙ eqb-true (polygon e) (polygon (r .0)) t)) in
       ⊎-elim (λ h. absurd (omega (arith, many, most (polygon (r .0)), pow-le (suc log) l h))) (λ h. omega arith) (lt-or-le log l)

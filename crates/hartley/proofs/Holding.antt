@@ -7,7 +7,7 @@ use Prim.Native.Nat.{ℕ, zero, suc, _+_, _-_, _*_, _≤_, _<_}
 use native.Mathlib.Omega.{arith}
 use lib.IntN.{pos, _+ℤ_, +ℤ-assoc}
 use Rattle.steps.specs.Rows.{Chain, inRow, closing, Record}
-use Rattle.steps.specs.SweepDown.{Numbers, Reading, readRecord, sweepDown}
+use Rattle.steps.specs.SweepDown.{Pair, Reading, readRecord, sweepDown}
 use Rattle.steps.specs.Plain.{plainTables, plainJournal}
 use Rattle.steps.proofs.AlikeDown.{Holding, GiveHeld, RecordHeld, AllHeld}
 use Rattle.hartley.specs.Swept.{readDown}
@@ -22,7 +22,7 @@ use Rattle.hartley.proofs.Ended.{Finished}
 use Rattle.hartley.proofs.Numbers.{index-small, rounds-few, answer-is}
 
 -- numbers that fit a list of so many edges
-pub record Fits (edges : ℕ) (v : Numbers) : Type 0 where
+pub record Fits (edges : ℕ) (v : Pair) : Type 0 where
   pub from-one : 1 ≤ v .polygon
   pub polygon-small : v .polygon ≤ edges
   pub at : ℕ
@@ -33,9 +33,9 @@ module _ (A : Setting) (s : Work) (F : Finished A s) where
   abbrev edges : ℕ
   edges = A .sheet .edges
 
-  module _ (table answers : ℕ → Numbers) where
+  module _ (table answers : ℕ → Pair) where
     abbrev Read : Type 0
-    Read = Reading (ℕ → Numbers) (ℕ → Numbers)
+    Read = Reading (ℕ → Pair) (ℕ → Pair)
 
     abbrev final : Read
     final = readDown (s .journal) (s .records) table answers
@@ -45,7 +45,7 @@ module _ (A : Setting) (s : Work) (F : Finished A s) where
     Onwards m d = (e : ℕ) → e < edges → sweepDown plainTables plainJournal (s .journal) m d .answers e ≡ final .answers e
 
     -- numbers that are an edge's answer moved forward
-    fits-by : (e f : ℕ) → e < edges → f ≤ edges → (v : Numbers) → final .answers e ≡ record { polygon = v .polygon; sequence = v .sequence +ℤ diff 0 f } → Fits edges v
+    fits-by : (e f : ℕ) → e < edges → f ≤ edges → (v : Pair) → final .answers e ≡ record { polygon = v .polygon; sequence = v .sequence +ℤ diff 0 f } → Fits edges v
     fits-by e f l m v q =
         let c = F .closed e l in
         let a = sym (answer-is A s F table answers e (c .0) (c .1) l (c .2)) ∙ q in
@@ -63,7 +63,7 @@ module _ (A : Setting) (s : Work) (F : Finished A s) where
       abbrev entry : Record
       entry = s .journal m
 
-      given-by : (c : Chain) (J : List down.Rec) (e f : ℕ) → place J (ofEdge e) ≡ at (nameIn entry c) (diff 0 f) → Numbers
+      given-by : (c : Chain) (J : List down.Rec) (e f : ℕ) → place J (ofEdge e) ≡ at (nameIn entry c) (diff 0 f) → Pair
       given-by (inRow r) J e f q = record { polygon = d .table r .polygon; sequence = d .table r .sequence +ℤ entry .offset }
       given-by closing J e f q = record { polygon = d .polygons + 1; sequence = entry .offset }
 
@@ -91,8 +91,8 @@ module _ (A : Setting) (s : Work) (F : Finished A s) where
           (sym (on (h .first) (h .real)) ∙ reading-law (s .journal) (suc m) d (ofEdge (h .first)) ∙ read-first (entry .chain) (recs (s .journal) m) (h .first) (h .before) (h .there))
 
     -- all of it can be held by tables for such rows, edges and numbers
-    module _ (H : Holding) (in-row : (r : ℕ) → r < A .rows → H .Row r) (row-holds : (r : ℕ) (v : Numbers) → r < A .rows → Fits edges v → H .InRow r v) (answer-holds : (e : ℕ) (v : Numbers) → e < edges → Fits edges v → H .InAnswer e v) where
-      give-held : (level name : ℕ) (v : Numbers) → NameFits A level name → Fits edges v → GiveHeld plainTables H level name v
+    module _ (H : Holding) (in-row : (r : ℕ) → r < A .rows → H .Row r) (row-holds : (r : ℕ) (v : Pair) → r < A .rows → Fits edges v → H .InRow r v) (answer-holds : (e : ℕ) (v : Pair) → e < edges → Fits edges v → H .InAnswer e v) where
+      give-held : (level name : ℕ) (v : Pair) → NameFits A level name → Fits edges v → GiveHeld plainTables H level name v
       give-held zero name v l f = answer-holds name v l f
       give-held (suc level) name v l f = row-holds name v l f
 

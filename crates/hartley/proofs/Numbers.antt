@@ -13,7 +13,7 @@ use Rattle.sheet.specs.Edges.{topHeight}
 use Rattle.sheet.specs.Joining.{Follows}
 use Rattle.sheet.specs.Numbering.{Numbering}
 use Rattle.sheet.proofs.Checked.{joins}
-use Rattle.steps.specs.SweepDown.{Numbers, Reading}
+use Rattle.steps.specs.SweepDown.{Pair, Reading}
 use Rattle.hartley.specs.Swept.{readDown, natural}
 use Rattle.steps.specs.declared.Side.the-variants.{Falling}
 use Rattle.hartley.proofs.Plan.{Plan, Lawful, uneven, height, Climbs}
@@ -47,14 +47,14 @@ module _ (A : Setting) (s : Work) (F : Finished A s) where
       one : (a b x : ℕ) → F .paths .spot x ≡ out a 0 → F .paths .spot x ≡ out b 0 → a ≡ b
       one a b x u v = cc
 
-module _ (A : Setting) (s : Work) (F : Finished A s) (table answers : ℕ → Numbers) where
+module _ (A : Setting) (s : Work) (F : Finished A s) (table answers : ℕ → Pair) where
   abbrev sh : Plan
   sh = plan A
 
   abbrev N : Lawful sh
   N = laws A
 
-  abbrev pub read : Reading (ℕ → Numbers) (ℕ → Numbers)
+  abbrev pub read : Reading (ℕ → Pair) (ℕ → Pair)
   read = readDown (s .journal) (s .records) table answers
 
   abbrev polygon : ℕ → ℕ

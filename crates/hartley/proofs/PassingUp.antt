@@ -7,7 +7,7 @@ use Prim.Native.Nat.{ℕ, zero, suc, _+_, _-_, _≤_, _<_}
 use native.Mathlib.Omega.{arith}
 use Rattle.laws.proofs.Deciding.{eq-or-ne, not-both}
 use Rattle.steps.specs.declared.Side.{Side}
-use Rattle.steps.specs.Rows.{otherSide, on, Row, Edge}
+use Rattle.steps.specs.Rows.{otherSide, on, Row, LevelEdge}
 use Rattle.steps.specs.SweepUp.{bottom, top, signed}
 use Rattle.hartley.proofs.Plan.{Plan, Lawful, height}
 use Rattle.hartley.proofs.Down.{ofRow, nameAt, Rec, put}
@@ -27,7 +27,7 @@ module _ {sh : Plan} (N : Lawful sh) {p m : ℕ} (n : ℕ) (E : Time sh p m) whe
   St T J B G = State sh p m n T J B G
 
   -- steps 1 to 4 on an edge in hand
-  module _ {T : Table} {J : List Rec} {B : Naming} {G : Paths} (I : St T J B G) {level : ℕ} {e : Edge ℕ} (P : Pre sh p m T B G level e) (K : Clean level T B G) (s : Side) (goes : height sh (bottom s e) < height sh (top s e)) (r : ℕ) {T₁ : Table}
+  module _ {T : Table} {J : List Rec} {B : Naming} {G : Paths} (I : St T J B G) {level : ℕ} {e : LevelEdge ℕ} (P : Pre sh p m T B G level e) (K : Clean level T B G) (s : Side) (goes : height sh (bottom s e) < height sh (top s e)) (r : ℕ) {T₁ : Table}
       (sl : Slot n T s level (bottom s e) r T₁) where
     abbrev y : Owner
     y = ownerOf B level (e .name)

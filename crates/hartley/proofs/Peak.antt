@@ -15,7 +15,7 @@ use Rattle.steps.specs.declared.Found.{Found}
 use Rattle.steps.specs.declared.Found.the-variants.{At, Nothing}
 use Rattle.steps.specs.declared.End.{End}
 use Rattle.steps.specs.declared.End.the-variants.{Done, NoFreeRow, Overrun}
-use Rattle.steps.specs.Rows.{otherSide, Edge, closing, Places, Table, Journal, Room}
+use Rattle.steps.specs.Rows.{otherSide, LevelEdge, closing, Places, Table, Journal, Room}
 use Rattle.steps.specs.SweepUp as up
 use Rattle.steps.specs.SweepUp.{State, Sweep, asEdge, bothFinished, levels, mostLength}
 use Rattle.laws.proofs.Lowest.{lowest-is}
@@ -32,14 +32,14 @@ module _ {P T J : Type 0} (places : Places P) (table : Table P T) (journal : Jou
   pick-peak true a b k u v = u
   pick-peak false a b k u v = v
 
-  attach-peak : (n : ℕ) (s : S) (level : ℕ) (side : Side) (e : Edge P) (r : ℕ) → up.attach (room n) s level side e r .peak ≡ s .peak
+  attach-peak : (n : ℕ) (s : S) (level : ℕ) (side : Side) (e : LevelEdge P) (r : ℕ) → up.attach (room n) s level side e r .peak ≡ s .peak
   unfolding up.attach up.move up.write
   attach-peak n s level side e r =
       pick-peak (ltb (s .records) records && leb (up.longer (room n) side (up.look (room n) s r) e) mostLength)
       (up.move (room n) (up.write (room n) s (up.chainRecord (room n) level side (up.look (room n) s r) e r)) r side (up.top side e) (up.longer (room n) side (up.look (room n) s r) e))
       (up.ended Overrun s) (s .peak) refl refl
 
-  close-peak : (n : ℕ) (s : S) (level : ℕ) (e : Edge P) → up.close (room n) s level e .peak ≡ s .peak
+  close-peak : (n : ℕ) (s : S) (level : ℕ) (e : LevelEdge P) → up.close (room n) s level e .peak ≡ s .peak
   unfolding up.close up.write
   close-peak n s level e = pick-peak (ltb (s .records) records) (up.write (room n) s (record { level = level; name = e .name; chain = closing; offset = pos (e .length .falling) })) (up.ended Overrun s) (s .peak) refl refl
 
@@ -54,7 +54,7 @@ module _ {P T J : Type 0} (places : Places P) (table : Table P T) (journal : Jou
     pick-grows p b c u v true = u
     pick-grows p b c u v false = v
 
-    module _ (next : S → Edge P → S) (grows : (s : S) (e : Edge P) → s .peak ≤ next s e .peak) where
+    module _ (next : S → LevelEdge P → S) (grows : (s : S) (e : LevelEdge P) → s .peak ≤ next s e .peak) where
       pub pass-grows : (s : S) (r : ℕ) → s .peak ≤ up.passUp (room n) next s r .peak
       unfolding up.passUp up.free
       pass-grows s r =
@@ -73,7 +73,7 @@ module _ {P T J : Type 0} (places : Places P) (table : Table P T) (journal : Jou
       meet-grows s side r Nothing = omega arith
       meet-grows s side r (At q) = both-grows (up.finish (room n) (up.finish (room n) s q (otherSide side)) r side) q r
 
-      pub row-grows : (s : S) (level : ℕ) (side : Side) (e : Edge P) (r : ℕ) → s .peak ≤ up.onRow (room n) next s level side e r .peak
+      pub row-grows : (s : S) (level : ℕ) (side : Side) (e : LevelEdge P) (r : ℕ) → s .peak ≤ up.onRow (room n) next s level side e r .peak
       unfolding up.onRow
       row-grows s level side e r =
           let a = up.attach (room n) s level side e r in
@@ -81,7 +81,7 @@ module _ {P T J : Type 0} (places : Places P) (table : Table P T) (journal : Jou
           let b = up.meet (room n) next a side r (up.meeting (room n) a level side e) in
           after-grows (s .peak) a b g (omega (arith, g, meet-grows a side r (up.meeting (room n) a level side e))) (a .end)
 
-      chain-grows : (s : S) (level : ℕ) (side : Side) (e : Edge P) (f : Found) → s .peak ≤ up.inChain (room n) next s level side e f .peak
+      chain-grows : (s : S) (level : ℕ) (side : Side) (e : LevelEdge P) (f : Found) → s .peak ≤ up.inChain (room n) next s level side e f .peak
       unfolding up.inChain up.open-row
       chain-grows s level side e (At r) = row-grows s level side e r
       chain-grows s level side e Nothing =
@@ -89,7 +89,7 @@ module _ {P T J : Type 0} (places : Places P) (table : Table P T) (journal : Jou
           let s₁ = up.open-row (room n) s r level (up.bottom side e) in
           pick-grows (s .peak) (up.onRow (room n) next s₁ level side e r) (up.ended NoFreeRow s) (omega (arith, row-grows s₁ level side e r)) (omega arith) (ltb r n)
 
-    pub treat-grows : (left level : ℕ) (s : S) (e : Edge P) → s .peak ≤ up.treat (room n) left level s e .peak
+    pub treat-grows : (left level : ℕ) (s : S) (e : LevelEdge P) → s .peak ≤ up.treat (room n) left level s e .peak
     unfolding up.treat up.stepsOn
     treat-grows zero level s e = pick-grows (s .peak) (up.close (room n) s level e) (up.ended Overrun s) (omega (arith, close-peak n s level e)) (omega arith) (places .same (e .tail) (e .head))
     treat-grows (suc left) level s e =
@@ -97,7 +97,7 @@ module _ {P T J : Type 0} (places : Places P) (table : Table P T) (journal : Jou
         (chain-grows (up.treat (room n) left (suc level)) (λ s e. treat-grows left (suc level) s e) s level (up.sideOf places e) e (up.find (room n) s level (up.sideOf places e) (up.bottom (up.sideOf places e) e)))
         (places .same (e .tail) (e .head))
 
-    pub sweep-grows : (list : ℕ → Edge P) (s : S) (i : ℕ) → s .peak ≤ up.sweepUp (room n) list s i .state .peak
+    pub sweep-grows : (list : ℕ → LevelEdge P) (s : S) (i : ℕ) → s .peak ≤ up.sweepUp (room n) list s i .state .peak
     unfolding up.sweepUp
     sweep-grows list s zero = omega arith
     sweep-grows list s (suc i) = by (w .state .end) (sweep-grows list s i)
@@ -146,7 +146,7 @@ module _ {P T J : Type 0} (places : Places P) (table : Table P T) (journal : Jou
     pick-cut true u v = u
     pick-cut false u v = v
 
-    module _ (next next′ : S → Edge P → S) (cuts : (s : S) (e : Edge P) → s .peak ≤ n → Cut (next s e) (next′ s e)) (grows : (s : S) (e : Edge P) → s .peak ≤ next′ s e .peak) where
+    module _ (next next′ : S → LevelEdge P → S) (cuts : (s : S) (e : LevelEdge P) → s .peak ≤ n → Cut (next s e) (next′ s e)) (grows : (s : S) (e : LevelEdge P) → s .peak ≤ next′ s e .peak) where
       pass-cut : (s : S) (r : ℕ) → s .peak ≤ n → Cut (up.passUp (room n) next s r) (up.passUp (room n′) next′ s r)
       unfolding up.passUp up.free
       pass-cut s r l =
@@ -164,7 +164,7 @@ module _ {P T J : Type 0} (places : Places P) (table : Table P T) (journal : Jou
       meet-cut s side r Nothing l = cut-same s l
       meet-cut s side r (At q) l = both-cut (up.finish (room n) (up.finish (room n) s q (otherSide side)) r side) q r l
 
-      row-cut : (s : S) (level : ℕ) (side : Side) (e : Edge P) (r : ℕ) → s .peak ≤ n → Cut (up.onRow (room n) next s level side e r) (up.onRow (room n′) next′ s level side e r)
+      row-cut : (s : S) (level : ℕ) (side : Side) (e : LevelEdge P) (r : ℕ) → s .peak ≤ n → Cut (up.onRow (room n) next s level side e r) (up.onRow (room n′) next′ s level side e r)
       unfolding up.onRow up.attach up.move up.write up.meeting up.find
       row-cut s level side e r l =
           then-cut (λ w. up.meet (room n) next w side r (up.meeting (room n) w level side e)) (λ w. up.meet (room n′) next′ w side r (up.meeting (room n′) w level side e)) a a (cut-same a (omega (arith, attach-peak n s level side e r))) (λ w h. meet-cut w side r (up.meeting (room n) w level side e) h) (λ w. meet-grows n′ next′ grows w side r _)
@@ -172,7 +172,7 @@ module _ {P T J : Type 0} (places : Places P) (table : Table P T) (journal : Jou
           a : S
           a = up.attach (room n) s level side e r
 
-      chain-cut : (s : S) (level : ℕ) (side : Side) (e : Edge P) (f : Found) → s .peak ≤ n → Cut (up.inChain (room n) next s level side e f) (up.inChain (room n′) next′ s level side e f)
+      chain-cut : (s : S) (level : ℕ) (side : Side) (e : LevelEdge P) (f : Found) → s .peak ≤ n → Cut (up.inChain (room n) next s level side e f) (up.inChain (room n′) next′ s level side e f)
       unfolding up.inChain up.open-row up.lowestFree up.inUse
       chain-cut s level side e (At r) l = row-cut s level side e r l
       chain-cut s level side e Nothing l = ⊎-elim low top (lowest-is (λ x. up.look (room n) s x .used) (s .peak))
@@ -199,11 +199,11 @@ module _ {P T J : Type 0} (places : Places P) (table : Table P T) (journal : Jou
           top : (r ≡ s .peak) × (s₁ .peak ≡ suc (s .peak)) × ((x : ℕ) → x < s .peak → up.look (room n) s x .used ≡ true) → Goal (ltb r n) (ltb r n′)
           top h = ⊎-elim (λ m. both-open m (omega (arith, h .0, h .1))) (λ m. rw (le-ltb r n m) (refused m (h .1) (h .0) (ltb r n′))) (lt-or-le r n)
 
-    close-cut : (s : S) (level : ℕ) (e : Edge P) → s .peak ≤ n → Cut (up.close (room n) s level e) (up.close (room n′) s level e)
+    close-cut : (s : S) (level : ℕ) (e : LevelEdge P) → s .peak ≤ n → Cut (up.close (room n) s level e) (up.close (room n′) s level e)
     unfolding up.close up.write
     close-cut s level e l = cut-same (up.close (room n) s level e) (omega (arith, close-peak n s level e))
 
-    pub treat-cut : (left level : ℕ) (s : S) (e : Edge P) → s .peak ≤ n → Cut (up.treat (room n) left level s e) (up.treat (room n′) left level s e)
+    pub treat-cut : (left level : ℕ) (s : S) (e : LevelEdge P) → s .peak ≤ n → Cut (up.treat (room n) left level s e) (up.treat (room n′) left level s e)
     unfolding up.treat up.stepsOn up.find
     treat-cut zero level s e l = pick-cut (places .same (e .tail) (e .head)) (close-cut s level e l) (cut-same (up.ended Overrun s) l)
     treat-cut (suc left) level s e l = pick-cut (places .same (e .tail) (e .head)) (close-cut s level e l)
@@ -213,7 +213,7 @@ module _ {P T J : Type 0} (places : Places P) (table : Table P T) (journal : Jou
       pub within : y .state .peak ≤ n → x ≡ y
       pub beyond : n < y .state .peak → x .state .end ≡ NoFreeRow
 
-    next-cut : (list : ℕ → Edge P) (i : ℕ) (x y : Sweep T J) → SweepCut x y
+    next-cut : (list : ℕ → LevelEdge P) (i : ℕ) (x y : Sweep T J) → SweepCut x y
         → SweepCut (up.nextEdge (x .state .end) x (up.treat (room n) levels 0 (x .state) (list i)) i) (up.nextEdge (y .state .end) y (up.treat (room n′) levels 0 (y .state) (list i)) i)
     next-cut list i x y c = ⊎-elim far near (lt-or-le n (y .state .peak))
       where
@@ -246,7 +246,7 @@ module _ {P T J : Type 0} (places : Places P) (table : Table P T) (journal : Jou
         }
 
     -- the first i edges swept with n rows and with n′
-    pub sweep-cut : (list : ℕ → Edge P) (s : S) (i : ℕ) → s .peak ≤ n → SweepCut (up.sweepUp (room n) list s i) (up.sweepUp (room n′) list s i)
+    pub sweep-cut : (list : ℕ → LevelEdge P) (s : S) (i : ℕ) → s .peak ≤ n → SweepCut (up.sweepUp (room n) list s i) (up.sweepUp (room n′) list s i)
     unfolding up.sweepUp
     sweep-cut list s zero l = record { within = λ h. refl; beyond = λ h. absurd (omega arith) }
     sweep-cut list s (suc i) l = next-cut list i (up.sweepUp (room n) list s i) (up.sweepUp (room n′) list s i) (sweep-cut list s i l)

@@ -10,14 +10,14 @@ use Rattle.laws.proofs.Deciding.{lt-or-le}
 use Rattle.steps.specs.declared.Side.{Side}
 use Rattle.steps.specs.declared.Side.the-variants.{Rising, Falling}
 use Rattle.steps.specs.Rows.{otherSide}
-use Rattle.sheet.specs.Edges.{Sheet, topHeight}
+use Rattle.sheet.specs.Edges.{Drawing, topHeight}
 use Rattle.sheet.specs.Kinds.{Way, arriving, leaving, otherWay, below, above, fromTest, endOf, comes}
 use Rattle.sheet.specs.Joining.{Follows}
 use Rattle.sheet.proofs.Checked.{Checked, Joins, joins}
 use Rattle.sheet.proofs.Following.{own-side-joins}
 
 pub record Plan : Type 0 where
-  pub list : Sheet
+  pub list : Drawing
   pub next : ℕ → ℕ
   pub prev : ℕ → ℕ
 
@@ -75,11 +75,11 @@ level-never {sh} N Falling e l q = N .proper e l (N .flat _ _ (N .same-film e l)
 pub uneven : {sh : Plan} → Lawful sh → (e : ℕ) → e < sh .list .edges → height sh (sh .list .tail e) ≡ height sh (sh .list .head e) → ⊥
 uneven {sh} N e l q = N .proper e l (N .flat (sh .list .tail e) (sh .list .head e) (N .same-film e l) q)
 
-abbrev pub planOf : {sh : Sheet} → Checked sh → Plan
+abbrev pub planOf : {sh : Drawing} → Checked sh → Plan
 planOf {sh} K = record { list = sh; next = joins (K .sound) .next; prev = joins (K .sound) .prev }
 
 -- an edge whose other end is lower comes from below, any other from above
-module _ (sh : Sheet) (w : Way) (e : ℕ) where
+module _ (sh : Drawing) (w : Way) (e : ℕ) where
   from-below : sh .height (endOf sh (otherWay w) e) < sh .height (endOf sh w e) → comes sh w e ≡ below
   unfolding comes
   from-below h = ap fromTest (lt-ltb _ _ h)
@@ -91,7 +91,7 @@ module _ (sh : Sheet) (w : Way) (e : ℕ) where
   is-above : comes sh w e ≡ above → sh .height (endOf sh w e) ≤ sh .height (endOf sh (otherWay w) e)
   is-above h = ⊎-elim (λ l. let q = from-below l in let z : _≡_ {A = ℕ} 0 1 = cc in absurd (omega arith)) (λ l. l) (lt-or-le _ _)
 
-module _ {sh : Sheet} (K : Checked sh) where
+module _ {sh : Drawing} (K : Checked sh) where
   abbrev J : Joins sh
   J = joins (K .sound)
 

@@ -9,7 +9,7 @@ use native.Mathlib.Numerals.{add-one}
 use native.Mathlib.Omega.{arith}
 use Rattle.laws.proofs.Deciding.{eq-or-ne}
 use Rattle.steps.specs.Rows.{Chain, inRow, closing, Record}
-use Rattle.steps.specs.SweepDown.{Numbers, Reading, readRecord, sweepDown}
+use Rattle.steps.specs.SweepDown.{Pair, Reading, readRecord, sweepDown}
 use Rattle.steps.specs.Plain.{put, plainTables, plainJournal}
 use Rattle.hartley.proofs.Puts.{put-at, put-off}
 use Rattle.hartley.proofs.Down.{Name, ofEdge, ofRow, nameAt, Rec, close, Table, same-name?, pick, write, shift, down, down-law, eval, place}
@@ -27,12 +27,12 @@ unfoldable pub recs : (ℕ → Record) → ℕ → List Rec
 recs j zero = []
 recs j (suc n) = recOf (j n) (j n .chain) ∷ recs j n
 
-abbrev pub numbersOf : Reading (ℕ → Numbers) (ℕ → Numbers) → Table
+abbrev pub numbersOf : Reading (ℕ → Pair) (ℕ → Pair) → Table
 numbersOf d (ofEdge e) = d .answers e
 numbersOf d (ofRow r) = d .table r
 
 -- a list's edge answered, and a row given numbers, as a write for an owner
-module _ (d : Reading (ℕ → Numbers) (ℕ → Numbers)) (a : ℕ) (v : Numbers) where
+module _ (d : Reading (ℕ → Pair) (ℕ → Pair)) (a : ℕ) (v : Pair) where
   answered : numbersOf (record { table = d .table; answers = put (d .answers) a v; polygons = d .polygons }) ≡ write (numbersOf d) (ofEdge a) v
   unfolding write
   answered = fun-ext to
@@ -56,7 +56,7 @@ module _ (d : Reading (ℕ → Numbers) (ℕ → Numbers)) (a : ℕ) (v : Number
           (eq-or-ne r a)
 
 -- one record: what stands for each owner after it
-module _ (d : Reading (ℕ → Numbers) (ℕ → Numbers)) (entry : Record) where
+module _ (d : Reading (ℕ → Pair) (ℕ → Pair)) (entry : Record) where
   put-read : (r l : ℕ) → entry .level ≡ l → numbersOf (readRecord plainTables d entry (inRow r)) ≡ write (numbersOf d) (nameAt (entry .level) (entry .name)) (shift (d .table r) (entry .offset))
   unfolding plainTables shift
   put-read r zero e = rw e (answered d (entry .name) _)
@@ -81,16 +81,16 @@ module _ (d : Reading (ℕ → Numbers) (ℕ → Numbers)) (entry : Record) wher
   closes-one J (inRow r) = rw (same-polygons r (entry .level) refl)
   closes-one J closing = omega arith
 
-sweep-is : (j : ℕ → Record) (n : ℕ) (d : Reading (ℕ → Numbers) (ℕ → Numbers)) (x : Name) → numbersOf (sweepDown plainTables plainJournal j n d) x ≡ down (recs j n) (numbersOf d) (d .polygons + 1) x
+sweep-is : (j : ℕ → Record) (n : ℕ) (d : Reading (ℕ → Pair) (ℕ → Pair)) (x : Name) → numbersOf (sweepDown plainTables plainJournal j n d) x ≡ down (recs j n) (numbersOf d) (d .polygons + 1) x
 unfolding sweepDown recs down plainJournal
 sweep-is j zero d x = refl
 sweep-is j (suc n) d x = sweep-is j n (readRecord plainTables d (j n) (j n .chain)) x ∙ read-one d (j n) (recs j n) (j n .chain) x
 
 -- the law of the sweep down
-pub reading-law : (j : ℕ → Record) (n : ℕ) (d : Reading (ℕ → Numbers) (ℕ → Numbers)) (x : Name) → numbersOf (sweepDown plainTables plainJournal j n d) x ≡ eval (numbersOf d) (d .polygons + 1) (place (recs j n) x)
+pub reading-law : (j : ℕ → Record) (n : ℕ) (d : Reading (ℕ → Pair) (ℕ → Pair)) (x : Name) → numbersOf (sweepDown plainTables plainJournal j n d) x ≡ eval (numbersOf d) (d .polygons + 1) (place (recs j n) x)
 reading-law j n d x = sweep-is j n d x ∙ down-law (recs j n) (numbersOf d) (d .polygons + 1) x
 
-pub polygons-law : (j : ℕ → Record) (n : ℕ) (d : Reading (ℕ → Numbers) (ℕ → Numbers)) → sweepDown plainTables plainJournal j n d .polygons ≡ d .polygons + closes (recs j n)
+pub polygons-law : (j : ℕ → Record) (n : ℕ) (d : Reading (ℕ → Pair) (ℕ → Pair)) → sweepDown plainTables plainJournal j n d .polygons ≡ d .polygons + closes (recs j n)
 unfolding sweepDown recs plainJournal
 polygons-law j zero d = unfold closes in omega arith
 polygons-law j (suc n) d = polygons-law j n (readRecord plainTables d (j n) (j n .chain)) ∙ closes-one d (j n) (recs j n) (j n .chain)

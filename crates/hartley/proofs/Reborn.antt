@@ -5,7 +5,7 @@ use mathlib.Core.List.{List}
 use Prim.Native.Nat.{ℕ, zero, suc, _<_}
 use native.Mathlib.Omega.{arith}
 use Rattle.laws.proofs.Deciding.{not-both}
-use Rattle.steps.specs.Rows.{Edge}
+use Rattle.steps.specs.Rows.{LevelEdge}
 use Rattle.hartley.proofs.Plan.{Plan}
 use Rattle.hartley.proofs.Down.{ofRow, nameAt, Rec, at}
 use Rattle.hartley.proofs.Puts.{put-off}
@@ -16,7 +16,7 @@ use Rattle.hartley.proofs.StepOne.{ownerOf, Pre}
 use Rattle.hartley.proofs.Kept.{Clean, Kept}
 
 -- a new birth for a free row leaves the edge in hand, what waits, and what is kept
-module _ {sh : Plan} {p m n : ℕ} {T : Table} {J : List Rec} {B : Naming} {G : Paths} (I : State sh p m n T J B G) (r : ℕ) (l : r < n) (free : T r .used ≡ false) {level : ℕ} {e : Edge ℕ} (P : Pre sh p m T B G level e) where
+module _ {sh : Plan} {p m n : ℕ} {T : Table} {J : List Rec} {B : Naming} {G : Paths} (I : State sh p m n T J B G) (r : ℕ) (l : r < n) (free : T r .used ≡ false) {level : ℕ} {e : LevelEdge ℕ} (P : Pre sh p m T B G level e) where
   abbrev pub B′ : Naming
   B′ = reborn B r
 

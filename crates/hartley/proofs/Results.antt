@@ -7,7 +7,7 @@ use Prim.Native.Nat.{ℕ, _+_, _*_, _≤_, _<_, max}
 use native.Mathlib.Omega.{arith}
 use lib.IntN.{pos}
 use Rattle.laws.proofs.Deciding.{lt-or-le}
-use Rattle.sheet.specs.Edges.{Sheet}
+use Rattle.sheet.specs.Edges.{Drawing}
 use Rattle.sheet.specs.Joining.{Follows}
 use Rattle.sheet.specs.Numbering.{Numbering}
 use Rattle.sheet.specs.Passing.{Enough}
@@ -15,7 +15,7 @@ use Rattle.sheet.proofs.Checked.{Checked, joins}
 use Rattle.steps.specs.declared.End.the-variants.{Done, NoFreeRow}
 use Rattle.steps.specs.Rows.{Row, Record, closing}
 use Rattle.steps.specs.SweepUp.{Sweep, start}
-use Rattle.steps.specs.SweepDown.{Numbers, Reading}
+use Rattle.steps.specs.SweepDown.{Pair, Reading}
 use Rattle.steps.specs.Plain.{newRow, plainTable, plainJournal, plainTables}
 use Rattle.steps.proofs.AlikeDown.{Holding, AllHeld}
 use Rattle.hartley.specs.Swept.{placesOf, edgeOf, swept, readDown, natural}
@@ -27,7 +27,7 @@ use Rattle.hartley.proofs.Holding.{Fits, all-held}
 use Rattle.hartley.proofs.Enough.{twelve-each, enough-rows}
 
 -- with so many rows and records lent
-module _ {sh : Sheet} (K : Checked sh) (few : sh .edges ≤ 4096) (rows records : ℕ) (long : 2 * sh .edges ≤ records) (t : ℕ → Row ℕ) (j : ℕ → Record) where
+module _ {sh : Drawing} (K : Checked sh) (few : sh .edges ≤ 4096) (rows records : ℕ) (long : 2 * sh .edges ≤ records) (t : ℕ → Row ℕ) (j : ℕ → Record) where
   abbrev A : Setting
   A = record { sheet = sh; checked = K; few = few; rows = rows; records = records; journal-long = long }
 
@@ -48,8 +48,8 @@ module _ {sh : Sheet} (K : Checked sh) (few : sh .edges ≤ 4096) (rows records 
     pub peak-within : (up .state .peak ≤ rows) × (up .state .peak ≤ up .state .records)
     peak-within = (F .peak-rows, F .peak-records)
 
-    module _ (table answers : ℕ → Numbers) where
-      abbrev pub down : Reading (ℕ → Numbers) (ℕ → Numbers)
+    module _ (table answers : ℕ → Pair) where
+      abbrev pub down : Reading (ℕ → Pair) (ℕ → Pair)
       down = readDown (up .state .journal) (up .state .records) table answers
 
       -- 2E - P
@@ -69,7 +69,7 @@ module _ {sh : Sheet} (K : Checked sh) (few : sh .edges ≤ 4096) (rows records 
       sequence-numbers = sequence-natural A (up .state) F table answers
 
       -- every number that is given on the way fits: rows lent, edges of the list, polygons up to the edges, sequence numbers below twice the edges
-      pub all-fits : (H : Holding) → ((r : ℕ) → r < rows → H .Row r) → ((r : ℕ) (v : Numbers) → r < rows → Fits (sh .edges) v → H .InRow r v) → ((e : ℕ) (v : Numbers) → e < sh .edges → Fits (sh .edges) v → H .InAnswer e v)
+      pub all-fits : (H : Holding) → ((r : ℕ) → r < rows → H .Row r) → ((r : ℕ) (v : Pair) → r < rows → Fits (sh .edges) v → H .InRow r v) → ((e : ℕ) (v : Pair) → e < sh .edges → Fits (sh .edges) v → H .InAnswer e v)
           → AllHeld plainTables H plainJournal (up .state .journal) (up .state .records) (record { table = table; answers = answers; polygons = 0 })
       all-fits = all-held A (up .state) F table answers
 
@@ -89,7 +89,7 @@ module _ {sh : Sheet} (K : Checked sh) (few : sh .edges ≤ 4096) (rows records 
   fewer-refused n l h = sweep-cut (placesOf sh) plainTable plainJournal records n rows l (edgeOf sh) (start t j) (sh .edges) (omega arith) .beyond h
 
 -- demand 3 for the peak itself
-pub peak-at-most : {sh : Sheet} (K : Checked sh) (few : sh .edges ≤ 4096) (rows records : ℕ) (long : 2 * sh .edges ≤ records) (t : ℕ → Row ℕ) (j : ℕ → Record) (polygon : ℕ → ℕ) → ((e f : ℕ) → Follows sh e f → polygon f ≡ polygon e)
+pub peak-at-most : {sh : Drawing} (K : Checked sh) (few : sh .edges ≤ 4096) (rows records : ℕ) (long : 2 * sh .edges ≤ records) (t : ℕ → Row ℕ) (j : ℕ → Record) (polygon : ℕ → ℕ) → ((e f : ℕ) → Follows sh e f → polygon f ≡ polygon e)
     → (c : ℕ) → Enough sh polygon c → c ≤ rows → swept sh rows records t j .state .peak ≤ c
 peak-at-most {sh} K few rows records long t j polygon shared c enough lent = ⊎-elim (λ h. absurd (clash h)) (λ h. h) (lt-or-le c (swept sh rows records t j .state .peak))
   where
@@ -101,14 +101,14 @@ peak-at-most {sh} K few rows records long t j polygon shared c enough lent = ⊎
         omega arith
 
 -- a checked list on one film has a numbering, and by crates/sheet only one
-module _ {sh : Sheet} (K : Checked sh) (few : sh .edges ≤ 4096) (one-film-only : (p q : ℕ) → sh .film p ≡ sh .film q) where
+module _ {sh : Drawing} (K : Checked sh) (few : sh .edges ≤ 4096) (one-film-only : (p q : ℕ) → sh .film p ≡ sh .film q) where
   abbrev anyRow : ℕ → Row ℕ
   anyRow r = newRow 0 0
 
   abbrev anyRecord : ℕ → Record
   anyRecord k = record { level = 0; name = 0; chain = closing; offset = pos 0 }
 
-  abbrev anyNumbers : ℕ → Numbers
+  abbrev anyNumbers : ℕ → Pair
   anyNumbers e = record { polygon = 0; sequence = pos 0 }
 
   abbrev enough : up K few (12 * sh .edges) (2 * sh .edges) (omega arith) anyRow anyRecord .state .end ≡ Done

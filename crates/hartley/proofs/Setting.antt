@@ -6,12 +6,12 @@ use mathlib.Core.Logic.{_⊎_, ⊎-elim}
 use Prim.Native.Nat.{ℕ, zero, suc, _+_, _*_, _≤_, _<_}
 use native.Mathlib.Omega.{arith}
 use Rattle.laws.proofs.Deciding.{lt-or-le}
-use Rattle.sheet.specs.Edges.{Sheet}
+use Rattle.sheet.specs.Edges.{Drawing}
 use Rattle.sheet.proofs.Checked.{Checked}
 use Rattle.steps.specs.Rows as steps
 use Rattle.steps.specs.Rows.{Row, Chain, inRow, Record, Room}
 use Rattle.steps.specs.Plain as plain
-use Rattle.hartley.specs.Swept.{roomOf}
+use Rattle.hartley.specs.Swept.{plainRoom}
 use Rattle.hartley.proofs.Plan.{Plan, Lawful, planOf, lawful}
 use Rattle.hartley.proofs.Differences.{diff}
 use Rattle.hartley.proofs.Down.{Name, ofEdge, ofRow, nameAt, Rec, put, at, place}
@@ -22,7 +22,7 @@ use Rattle.hartley.proofs.PassingUp.{first}
 
 -- a checked list, and the room lent
 pub record Setting : Type 0 where
-  pub sheet : Sheet
+  pub sheet : Drawing
   pub checked : Checked sheet
   pub few : sheet .edges ≤ 4096
   pub rows : ℕ
@@ -36,7 +36,7 @@ abbrev pub laws : (A : Setting) → Lawful (plan A)
 laws A = lawful (A .checked)
 
 abbrev pub roomIn : Setting → Room ℕ (ℕ → Row ℕ) (ℕ → Record)
-roomIn A = roomOf (A .sheet) (A .rows) (A .records)
+roomIn A = plainRoom (A .sheet) (A .rows) (A .records)
 
 -- which edge a record puts or closes, and that its names are those of edges of the list and of rows lent
 abbrev pub nameIn : Record → Chain → Name

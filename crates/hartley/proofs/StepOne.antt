@@ -9,7 +9,7 @@ use native.Mathlib.Omega.{arith}
 use Rattle.laws.proofs.Deciding.{not-both}
 use Rattle.steps.specs.declared.Side.{Side}
 use Rattle.steps.specs.declared.Side.the-variants.{Rising, Falling}
-use Rattle.steps.specs.Rows.{otherSide, on, Row, Edge}
+use Rattle.steps.specs.Rows.{otherSide, on, Row, LevelEdge}
 use Rattle.steps.specs.SweepUp.{bottom, top}
 use Rattle.steps.specs.Plain as plain
 use Rattle.steps.specs.Plain.{newRow}
@@ -31,12 +31,12 @@ ownerOf B zero a = edge a
 ownerOf B (suc l) r = row (B .now r)
 
 -- an edge starts on a side where it stops on the other
-pub top-other : (s : Side) (e : Edge ℕ) → top (otherSide s) e ≡ bottom s e
+pub top-other : (s : Side) (e : LevelEdge ℕ) → top (otherSide s) e ≡ bottom s e
 top-other Rising e = refl
 top-other Falling e = refl
 
 -- what is known of the edge in hand
-pub record Pre (sh : Plan) (p m : ℕ) (T : Table) (B : Naming) (G : Paths) (level : ℕ) (e : Edge ℕ) : Type 0 where
+pub record Pre (sh : Plan) (p m : ℕ) (T : Table) (B : Naming) (G : Paths) (level : ℕ) (e : LevelEdge ℕ) : Type 0 where
   pub live : 0 < size G (ownerOf B level (e .name))
   pub both-finished : (s : Side) → marksOf T B .finished s (ownerOf B level (e .name)) ≡ true
   pub level-is : marksOf T B .own-level (ownerOf B level (e .name)) ≡ level
@@ -60,11 +60,11 @@ pub data Slot (n : ℕ) (T : Table) (s : Side) (level t : ℕ) : ℕ → Table �
   opened : (r : ℕ) → r < n → ((q : ℕ) → HasTip T s level t q → ⊥) → T r .used ≡ false → Slot n T s level t r (plain.put T r (newRow level t))
 
 -- an edge in hand, on its side
-pub in-hand-of : {sh : Plan} {p m : ℕ} {T : Table} {B : Naming} {G : Paths} {level : ℕ} {e : Edge ℕ} → Pre sh p m T B G level e → (s : Side) → height sh (bottom s e) < height sh (top s e) → InHand sh p m G (marksOf T B) s (ownerOf B level (e .name))
+pub in-hand-of : {sh : Plan} {p m : ℕ} {T : Table} {B : Naming} {G : Paths} {level : ℕ} {e : LevelEdge ℕ} → Pre sh p m T B G level e → (s : Side) → height sh (bottom s e) < height sh (top s e) → InHand sh p m G (marksOf T B) s (ownerOf B level (e .name))
 in-hand-of {sh} {e = e} P s l = let k = P .goes s l in record { live = P .live; both-finished = P .both-finished; climbs = k .0; top = k .1; bottom = omega (arith, l, ap (height sh) (P .end-is (otherSide s) ∙ top-other s e), ap (height sh) (sym (P .end-is s) ∙ k .1)); mine = P .mine }
 
 module _ {sh : Plan} (N : Lawful sh) {p m n : ℕ} (E : Time sh p m) {T : Table} {J : List Rec} {B : Naming} {G : Paths} (I : State sh p m n T J B G)
-    {level : ℕ} {e : Edge ℕ} (P : Pre sh p m T B G level e) (s : Side) (goes : height sh (bottom s e) < height sh (top s e)) (r : ℕ) where
+    {level : ℕ} {e : LevelEdge ℕ} (P : Pre sh p m T B G level e) (s : Side) (goes : height sh (bottom s e) < height sh (top s e)) (r : ℕ) where
   abbrev x : Owner
   x = ownerOf B level (e .name)
 

@@ -11,7 +11,7 @@ use lib.IntN.{ℤ}
 use Rattle.laws.proofs.Deciding.{lt-or-le, eq-or-ne, not-both}
 use Rattle.steps.specs.declared.Side.{Side}
 use Rattle.steps.specs.declared.Side.the-variants.{Rising, Falling}
-use Rattle.steps.specs.Rows.{otherSide, on, Branch, Row, Edge}
+use Rattle.steps.specs.Rows.{otherSide, on, Branch, Row, LevelEdge}
 use Rattle.steps.specs.SweepUp.{bottom, top, signed}
 use Rattle.steps.specs.Plain.{withBranch}
 use Rattle.hartley.proofs.Plan.{Plan, Lawful, height, tip}
@@ -31,7 +31,7 @@ use Rattle.hartley.proofs.Branches.{Alike, lengthened, longerBranch, ma
 use Rattle.hartley.proofs.StepOne.{HasTip, Pre, Ready, ownerOf}
 
 module _ {sh : Plan} (N : Lawful sh) {p m n : ℕ} (E : Time sh p m) {T : Table} {J : List Rec} {B : Naming} {G : Paths} (I : State sh p m n T J B G)
-    {level : ℕ} {e : Edge ℕ} (P : Pre sh p m T B G level e) (s : Side) (goes : height sh (bottom s e) < height sh (top s e)) (r : ℕ) where
+    {level : ℕ} {e : LevelEdge ℕ} (P : Pre sh p m T B G level e) (s : Side) (goes : height sh (bottom s e) < height sh (top s e)) (r : ℕ) where
   abbrev x : Owner
   x = ownerOf B level (e .name)
 

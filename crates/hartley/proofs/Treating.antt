@@ -19,7 +19,7 @@ use Rattle.steps.specs.declared.Found.the-variants.{At, Nothing}
 use Rattle.steps.specs.declared.End.{End}
 use Rattle.steps.specs.declared.End.the-variants.{Done, NoFreeRow, Overrun}
 use Rattle.steps.specs.Rows as steps
-use Rattle.steps.specs.Rows.{otherSide, on, Row, Record, Edge, Room}
+use Rattle.steps.specs.Rows.{otherSide, on, Row, Record, LevelEdge, Room}
 use Rattle.steps.specs.SweepUp as up
 use Rattle.steps.specs.SweepUp.{asEdge, bothFinished, sideTest, bottom, top}
 use Rattle.steps.specs.Plain as plain
@@ -66,12 +66,12 @@ module _ (A : Setting) {p h : ℕ} (E : Time (plan A) p h) where
   room = roomIn A
 
   -- how an edge of a level is treated
-  abbrev pub Treats : ℕ → (Work → Edge ℕ → Work) → Type 0
-  Treats level next = (s : Work) (e : Edge ℕ) (B : Naming) (G : Paths) → Inv A E s B G → Pre sh p h (tableOf s) B G level e → Clean level (tableOf s) B G → edgeBit (nameAt level (e .name)) + listed (journalOf s) ≤ A .sheet .edges
+  abbrev pub Treats : ℕ → (Work → LevelEdge ℕ → Work) → Type 0
+  Treats level next = (s : Work) (e : LevelEdge ℕ) (B : Naming) (G : Paths) → Inv A E s B G → Pre sh p h (tableOf s) B G level e → Clean level (tableOf s) B G → edgeBit (nameAt level (e .name)) + listed (journalOf s) ≤ A .sheet .edges
       → Outcome A E (next s e) (edgeBit (nameAt level (e .name)) + listed (journalOf s)) (λ B′ G′. Kept level (ownerOf B level (e .name)) (tableOf s) (tableOf (next s e)) B B′ G G′)
 
   -- a row passed up, if it is whole, and freed
-  module _ (level : ℕ) (next : Work → Edge ℕ → Work) (ih : Treats (suc level) next) where
+  module _ (level : ℕ) (next : Work → LevelEdge ℕ → Work) (ih : Treats (suc level) next) where
     abbrev After : Work → ℕ → Naming → Paths → Work → Type 0
     After s q B X s′ = Outcome A E s′ (listed (journalOf s)) (λ B′ G′. Passed (suc level) q (tableOf s) (tableOf s′) B B′ X G′)
 
@@ -120,7 +120,7 @@ module _ (A : Setting) {p h : ℕ} (E : Time (plan A) p h) where
             counts-row : {s′ : Work} {Q : Naming → Paths → Type 0} → Outcome A E s′ (0 + listed (journalOf s)) Q → Outcome A E s′ (listed (journalOf s)) Q
             counts-row {s′} {Q} r = let z : 0 + listed (journalOf s) ≡ listed (journalOf s) = omega arith in subst (λ n. Outcome A E s′ n Q) z r
 
-  lengthened-used : (side : Side) (T : Table) (r : ℕ) (e : Edge ℕ) (i : ℕ) → lengthened side T r e i .used ≡ T i .used
+  lengthened-used : (side : Side) (T : Table) (r : ℕ) (e : LevelEdge ℕ) (i : ℕ) → lengthened side T r e i .used ≡ T i .used
   lengthened-used side T r e i = ⊎-elim (λ q. ap (λ (v : Row ℕ). v .used) (put-at T r i _ q) ∙ ap (λ j. T j .used) (sym q)) (λ q. ap (λ (v : Row ℕ). v .used) (put-off T r i _ q)) (eq-or-ne i r)
 
   -- the same state with one row more
@@ -159,7 +159,7 @@ module _ (A : Setting) {p h : ℕ} (E : Time (plan A) p h) where
   falling-short I y = omega (arith, size-small (I .frame .chain) y)
 
   -- steps 2 to 4 on the row of step 1
-  module _ (level : ℕ) (next : Work → Edge ℕ → Work) (ih : Treats (suc level) next) (s : Work) (B : Naming) (G : Paths) (e : Edge ℕ) (I : Inv A E s B G) (P : Pre sh p h (tableOf s) B G level e) (C : Clean level (tableOf s) B G)
+  module _ (level : ℕ) (next : Work → LevelEdge ℕ → Work) (ih : Treats (suc level) next) (s : Work) (B : Naming) (G : Paths) (e : LevelEdge ℕ) (I : Inv A E s B G) (P : Pre sh p h (tableOf s) B G level e) (C : Clean level (tableOf s) B G)
       (counted : edgeBit (nameAt level (e .name)) + listed (journalOf s) ≤ A .sheet .edges) (side : Side) (goes : height sh (bottom side e) < height sh (top side e)) where
     abbrev n : ℕ
     n = A .rows
@@ -327,7 +327,7 @@ module _ (A : Setting) {p h : ℕ} (E : Time (plan A) p h) where
       crowded = by-match (meets A E (suc n) s B G level e I₀ P C counted side goes s₀ r₀ L₀ (up.meeting room a₀ level side e) refl)
 
   -- step 1 and what follows
-  module _ (level : ℕ) (next : Work → Edge ℕ → Work) (ih : Treats (suc level) next) (s : Work) (B : Naming) (G : Paths) (e : Edge ℕ) (I : Inv A E s B G) (P : Pre sh p h (tableOf s) B G level e) (C : Clean level (tableOf s) B G)
+  module _ (level : ℕ) (next : Work → LevelEdge ℕ → Work) (ih : Treats (suc level) next) (s : Work) (B : Naming) (G : Paths) (e : LevelEdge ℕ) (I : Inv A E s B G) (P : Pre sh p h (tableOf s) B G level e) (C : Clean level (tableOf s) B G)
       (counted : edgeBit (nameAt level (e .name)) + listed (journalOf s) ≤ A .sheet .edges) (side : Side) (goes : height sh (bottom side e) < height sh (top side e)) where
     abbrev Ends : Work → Type 0
     Ends s′ = Outcome A E s′ (edgeBit (nameAt level (e .name)) + listed (journalOf s)) (λ B′ G′. Kept level (ownerOf B level (e .name)) (tableOf s) (tableOf s′) B B′ G G′)
@@ -382,7 +382,7 @@ module _ (A : Setting) {p h : ℕ} (E : Time (plan A) p h) where
     steps-outcome = chain-outcome (up.find room s level side (bottom side e)) refl
 
   -- a closing edge
-  module _ (s : Work) (l : ℕ) (e : Edge ℕ) (B : Naming) (G : Paths) (I : Inv A E s B G) (P : Pre sh p h (tableOf s) B G (suc l) e) (C : Clean (suc l) (tableOf s) B G) (few : listed (journalOf s) ≤ A .sheet .edges) (ends : e .tail ≡ e .head) where
+  module _ (s : Work) (l : ℕ) (e : LevelEdge ℕ) (B : Naming) (G : Paths) (I : Inv A E s B G) (P : Pre sh p h (tableOf s) B G (suc l) e) (C : Clean (suc l) (tableOf s) B G) (few : listed (journalOf s) ≤ A .sheet .edges) (ends : e .tail ≡ e .head) where
     abbrev z : Work
     z = closed (A .sheet) (A .rows) (A .records) s (suc l) e
 
@@ -424,19 +424,19 @@ module _ (A : Setting) {p h : ℕ} (E : Time (plan A) p h) where
         (done B _ (record { state = I₂; held = held-closed; peak-rows = omega (arith, R .1, I .peak-rows); peak-records = omega (arith, R .1, R .2, I .peak-records); is-done = R .3 ∙ I .is-done; spare = I .spare }) listed-is (rw (R .0) (w .1)))
 
   -- an edge that does not close has a level to go to
-  level-left : (s : Work) (level : ℕ) (e : Edge ℕ) (B : Naming) (G : Paths) → Inv A E s B G → Pre sh p h (tableOf s) B G level e → (e .tail ≡ e .head → ⊥) → suc level ≤ 12
+  level-left : (s : Work) (level : ℕ) (e : LevelEdge ℕ) (B : Naming) (G : Paths) → Inv A E s B G → Pre sh p h (tableOf s) B G level e → (e .tail ≡ e .head → ⊥) → suc level ≤ 12
   level-left s level e B G I P d = level-small N (A .few) (suc level) (rw (P .level-is) at (invariant.room N E (I .state .frame) (I .state .seams) (ownerOf B level (e .name)) (P .live) (P .both-finished) (λ q. d (sym (P .end-is Falling) ∙ q ∙ P .end-is Rising))))
 
-  goes-on : (s : Work) (level : ℕ) (e : Edge ℕ) (B : Naming) (G : Paths) → Pre sh p h (tableOf s) B G level e → (e .tail ≡ e .head → ⊥) → (t : Bool) → ltb (A .sheet .height (e .tail)) (A .sheet .height (e .head)) ≡ t
+  goes-on : (s : Work) (level : ℕ) (e : LevelEdge ℕ) (B : Naming) (G : Paths) → Pre sh p h (tableOf s) B G level e → (e .tail ≡ e .head → ⊥) → (t : Bool) → ltb (A .sheet .height (e .tail)) (A .sheet .height (e .head)) ≡ t
       → height sh (bottom (sideTest t) e) < height sh (top (sideTest t) e)
   goes-on s level e B G P d true t = ltb-true (A .sheet .height (e .tail)) (A .sheet .height (e .head)) t
   goes-on s level e B G P d false t = ⊎-elim (λ q. absurd (d (P .flat q))) (λ q. omega (arith, ltb-false (A .sheet .height (e .tail)) (A .sheet .height (e .head)) t, q)) (eq-or-ne (A .sheet .height (e .tail)) (A .sheet .height (e .head)))
 
   -- an edge of any level, with the levels left above it
-  abbrev TreatEnds : (level : ℕ) (s : Work) (e : Edge ℕ) → Naming → Paths → Work → Type 0
+  abbrev TreatEnds : (level : ℕ) (s : Work) (e : LevelEdge ℕ) → Naming → Paths → Work → Type 0
   TreatEnds level s e B G s′ = Outcome A E s′ (edgeBit (nameAt level (e .name)) + listed (journalOf s)) (λ B′ G′. Kept level (ownerOf B level (e .name)) (tableOf s) (tableOf s′) B B′ G G′)
 
-  shuts : (level : ℕ) (s : Work) (e : Edge ℕ) (B : Naming) (G : Paths) → Inv A E s B G → Pre sh p h (tableOf s) B G level e → Clean level (tableOf s) B G → edgeBit (nameAt level (e .name)) + listed (journalOf s) ≤ A .sheet .edges → e .tail ≡ e .head → TreatEnds level s e B G (up.close room s level e)
+  shuts : (level : ℕ) (s : Work) (e : LevelEdge ℕ) (B : Naming) (G : Paths) → Inv A E s B G → Pre sh p h (tableOf s) B G level e → Clean level (tableOf s) B G → edgeBit (nameAt level (e .name)) + listed (journalOf s) ≤ A .sheet .edges → e .tail ≡ e .head → TreatEnds level s e B G (up.close room s level e)
   shuts zero s e B G I P C k q = let w = P .is-row q in absurd (omega (arith, w .1))
   shuts (suc l) s e B G I P C k q = close-outcome s l e B G I P C (omega arith) q
 

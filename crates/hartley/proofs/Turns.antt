@@ -15,16 +15,16 @@ use Rattle.laws.proofs.Deciding.{lt-or-le, true-or-false, not-both, both-true}
 use Rattle.laws.proofs.Counting.{without, without-there, count-without}
 use Rattle.laws.proofs.First.{some-below-true, none-below}
 use Rattle.laws.proofs.Pigeonhole.{pigeon, reached}
-use Rattle.sheet.specs.Edges.{Sheet}
+use Rattle.sheet.specs.Edges.{Drawing}
 use Rattle.sheet.specs.Joining.{Follows}
 use Rattle.sheet.specs.Numbering.{Numbering}
-use Rattle.sheet.specs.Passing.{edgesOf}
+use Rattle.sheet.specs.Passing.{outlineSize}
 use Rattle.sheet.specs.TurnList.{TurnList}
 use Rattle.sheet.proofs.Checked.{Checked, Joins, joins}
 use Rattle.sheet.proofs.Leads.{step-back, before-follows}
 use Rattle.hartley.proofs.Limits.{count-every}
 
-module _ {sh : Sheet} (K : Checked sh) {polygon sequence : ℕ → ℕ} {polygons : ℕ} (A : Numbering sh polygon sequence polygons) where
+module _ {sh : Drawing} (K : Checked sh) {polygon sequence : ℕ → ℕ} {polygons : ℕ} (A : Numbering sh polygon sequence polygons) where
   abbrev J : Joins sh
   J = joins (K .sound)
 
@@ -36,16 +36,16 @@ module _ {sh : Sheet} (K : Checked sh) {polygon sequence : ℕ → ℕ} {polygon
       let v = back-to d (J .prev e) (J .before e l .0) k (s .1) in
       (v .0, v .1, v .2 ∙ s .0, v .3)
 
-  pub sequence-below : (e : ℕ) → e < sh .edges → sequence e < edgesOf sh polygon (polygon e)
-  unfolding edgesOf
+  pub sequence-below : (e : ℕ) → e < sh .edges → sequence e < outlineSize sh polygon (polygon e)
+  unfolding outlineSize
   sequence-below e l =
       let p = pigeon (λ k x. (polygon x ≡ polygon e) × (sequence x ≡ k)) (λ i j x a b. sym (a .1) ∙ b .1) (λ k. true) (λ x. eqb (polygon x) (polygon e)) (suc (sequence e)) (sh .edges)
       (λ k h t. let v = back-to (sequence e - k) e l k (omega arith) in (v .0, v .1, eq-eqb _ _ (v .2), (v .2, v .3))) in
       omega (arith, p, count-every (suc (sequence e)))
 
   -- and every one below the number of the polygon's edges
-  pub sequence-met : (k i : ℕ) → i < edgesOf sh polygon k → (e : ℕ) × (e < sh .edges) × (polygon e ≡ k) × (sequence e ≡ i)
-  unfolding edgesOf
+  pub sequence-met : (k i : ℕ) → i < outlineSize sh polygon k → (e : ℕ) × (e < sh .edges) × (polygon e ≡ k) × (sequence e ≡ i)
+  unfolding outlineSize
   sequence-met k i l = ⊎-elim hit (λ h. absurd (missed h)) (true-or-false (some-below test (sh .edges)))
     where
       test : ℕ → Bool
@@ -55,7 +55,7 @@ module _ {sh : Sheet} (K : Checked sh) {polygon sequence : ℕ → ℕ} {polygon
       hit h = let v = some-below-true test (sh .edges) h in let b = both-true (eqb (polygon (v .0)) k) _ (v .2) in (v .0, v .1, eqb-true _ _ (b .0), eqb-true _ _ (b .1))
 
       n : ℕ
-      n = edgesOf sh polygon k
+      n = outlineSize sh polygon k
 
       other : some-below test (sh .edges) ≡ false → (x : ℕ) → x < sh .edges → polygon x ≡ k → sequence x ≡ i → ⊥
       other h x m p q = not-both (rw (eq-eqb _ _ p, eq-eqb _ _ q) refl) (none-below test (sh .edges) h x m)
@@ -77,17 +77,17 @@ module _ {sh : Sheet} (K : Checked sh) {polygon sequence : ℕ → ℕ} {polygon
       rw (A .pairs (J .prev f) e (b .0) l (s .0 ∙ p) (s .1)) at (before-follows K A f m)
 
   -- and round to the first
-  pub last-to-first : (e f : ℕ) → e < sh .edges → f < sh .edges → polygon f ≡ polygon e → suc (sequence e) ≡ edgesOf sh polygon (polygon e) → sequence f ≡ 0 → Follows sh e f
+  pub last-to-first : (e f : ℕ) → e < sh .edges → f < sh .edges → polygon f ≡ polygon e → suc (sequence e) ≡ outlineSize sh polygon (polygon e) → sequence f ≡ 0 → Follows sh e f
   last-to-first e f l m p q z =
       let a = J .follows e l in
       let c = A .shared _ _ a in
       ⊎-elim
-      (λ h. absurd (omega (arith, h, q, ap (edgesOf sh polygon) c, sequence-below (J .next e) (a .next-is-edge))))
+      (λ h. absurd (omega (arith, h, q, ap (outlineSize sh polygon) c, sequence-below (J .next e) (a .next-is-edge))))
       (λ h. rw (A .pairs (J .next e) f (a .next-is-edge) m (c ∙ sym p) (h ∙ sym z)) at a)
       (A .counts _ _ a)
 
 -- the edges in a turn list: neighbours of one polygon follow each other
-module _ {sh : Sheet} (K : Checked sh) {polygon sequence : ℕ → ℕ} {polygons : ℕ} (A : Numbering sh polygon sequence polygons) (turns : List ℕ) (L : TurnList (record { polygon = polygon; sequence = sequence; edges = sh .edges }) turns) where
+module _ {sh : Drawing} (K : Checked sh) {polygon sequence : ℕ → ℕ} {polygons : ℕ} (A : Numbering sh polygon sequence polygons) (turns : List ℕ) (L : TurnList (record { polygon = polygon; sequence = sequence; edges = sh .edges }) turns) where
   abbrev turn : ℕ → ℕ
   turn i = getD turns i 0
 

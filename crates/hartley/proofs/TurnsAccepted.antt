@@ -13,9 +13,9 @@ use Rattle.laws.specs.Counting.{some-below, first, largest}
 use Rattle.laws.proofs.Deciding.{lt-or-le, true-or-false, both-true}
 use Rattle.laws.proofs.First.{first-none, below-none, below-some}
 use Rattle.laws.proofs.Largest.{largest-is}
-use Rattle.sheet.specs.Edges.{Sheet}
+use Rattle.sheet.specs.Edges.{Drawing}
 use Rattle.sheet.specs.Numbering.{Numbering}
-use Rattle.sheet.specs.TurnList.{Numbers, numbersOf, noPolygon, pairRepeated, gap, refuseTurn, lengthsDiffer, turned}
+use Rattle.sheet.specs.TurnList.{NumberLists, numberLists, noPolygon, pairRepeated, gap, refuseTurn, lengthsDiffer, turned}
 use Rattle.sheet.specs.declared.TurnRefusal.{TurnRefusal}
 use Rattle.sheet.specs.declared.TurnRefusal.the-variants.{NoPolygon, PairRepeated, Gap}
 use Rattle.sheet.specs.declared.TurnAnswer.{TurnAnswer}
@@ -30,19 +30,19 @@ passes-on test n refusal rest h = ap (λ b. refuseTurn b (refusal (first test n)
 fails : (b : Bool) → (b ≡ true → ⊥) → b ≡ false
 fails b h = ⊎-elim (λ e. absurd (h e)) (λ e. e) (true-or-false b)
 
-module _ {sh : Sheet} (K : Checked sh) (polygons sequences : List ℕ) (same : length polygons ≡ sh .edges) {k : ℕ} (A : Numbering sh (λ e. getD polygons e 0) (λ e. getD sequences e 0) k) where
-  abbrev v : Numbers
-  v = numbersOf polygons sequences
+module _ {sh : Drawing} (K : Checked sh) (polygons sequences : List ℕ) (same : length polygons ≡ sh .edges) {k : ℕ} (A : Numbering sh (λ e. getD polygons e 0) (λ e. getD sequences e 0) k) where
+  abbrev v : NumberLists
+  v = numberLists polygons sequences
 
   in-list : (e : ℕ) → e < length polygons → e < sh .edges
   in-list e l = omega (arith, same)
 
   has-polygon : (e : ℕ) → e < length polygons → noPolygon v e ≡ false
-  unfolding noPolygon numbersOf
+  unfolding noPolygon numberLists
   has-polygon e l = ne-eqb (getD polygons e 0) 0 (λ q. omega (arith, A .from-one e (in-list e l)))
 
   no-pair : (e : ℕ) → e < length polygons → pairRepeated v e ≡ false
-  unfolding pairRepeated numbersOf
+  unfolding pairRepeated numberLists
   no-pair e l = below-none _ e (λ f m. fails _ (λ t.
       let b = both-true (eqb (getD polygons f 0) (getD polygons e 0)) _ t in
       let q = A .pairs f e (in-list f (omega arith)) (in-list e l) (eqb-true _ _ (b .0)) (eqb-true _ _ (b .1)) in
@@ -65,7 +65,7 @@ module _ {sh : Sheet} (K : Checked sh) (polygons sequences : List ℕ) (same : l
       below-some _ (length polygons) (w .0) (omega (arith, w .1, same)) (eq-eqb (getD polygons (w .0) 0 + 1) (getD polygons e 0) (omega (arith, w .2, m)))
 
   no-hole : (e : ℕ) → e < length polygons → gap v e ≡ false
-  unfolding gap numbersOf
+  unfolding gap numberLists
   no-hole e l = rw (and-not _ _ (before-it e l), and-not _ _ (polygon-before e l)) refl
 
   most : largest (λ e. getD polygons e 0) (length polygons) ≡ k
@@ -83,7 +83,7 @@ module _ {sh : Sheet} (K : Checked sh) (polygons sequences : List ℕ) (same : l
           rw (z, q) (unfold largest in refl)
 
   pub turns-accepted : length sequences ≡ length polygons → length polygons ≤ 4096 → turned polygons sequences (length polygons) ≡ answer.Accepted k
-  unfolding turned lengthsDiffer numbersOf
+  unfolding turned lengthsDiffer numberLists
   turns-accepted s few =
       rw (eq-eqb (length polygons) (length sequences) (sym s), eq-eqb (length polygons) (length polygons) refl, le-ltb 4096 (length polygons) few)
       (passes-on (noPolygon v) (length polygons) (λ e. NoPolygon e) _ has-polygon ∙ passes-on (pairRepeated v) (length polygons) (λ e. PairRepeated e) _ no-pair ∙ passes-on (gap v) (length polygons) (λ e. Gap e) _ no-hole ∙ ap answer.Accepted most)

@@ -10,10 +10,10 @@ use borrow.Author.Tests.{not-true, eq-eqb, eqb-true, lt-ltb, le-ltb, ltb-true, l
 use Rattle.laws.specs.Counting.{first}
 use Rattle.laws.proofs.Deciding.{lt-or-le, eq-or-ne, both-true}
 use Rattle.laws.proofs.First.{first-holds, first-least}
-use Rattle.sheet.specs.Edges.{Sheet}
+use Rattle.sheet.specs.Edges.{Drawing}
 use Rattle.steps.specs.declared.Side.{Side}
 use Rattle.steps.specs.declared.Found.the-variants.{At, Nothing}
-use Rattle.steps.specs.Rows.{otherSide, on, Row, Edge}
+use Rattle.steps.specs.Rows.{otherSide, on, Row, LevelEdge}
 use Rattle.steps.specs.SweepUp.{foundBelow, pickFound, hasTip}
 use Rattle.steps.specs.Plain.{put, withBranch, freeRow}
 use Rattle.hartley.specs.Swept.{placesOf}
@@ -62,7 +62,7 @@ module _ (t : ℕ → Row ℕ) (peak : ℕ) where
   pub view-put : (r : ℕ) (v : Row ℕ) → r < peak → view (put t r v) peak ≡ put (view t peak) r v
   view-put r v l = view-opened r v peak l (λ s d. ((λ a. a), λ a. a))
 
-  pub view-lengthened : (s : Side) (r : ℕ) (e : Edge ℕ) → r < peak → view (lengthened s t r e) peak ≡ lengthened s (view t peak) r e
+  pub view-lengthened : (s : Side) (r : ℕ) (e : LevelEdge ℕ) → r < peak → view (lengthened s t r e) peak ≡ lengthened s (view t peak) r e
   view-lengthened s r e l = view-put r _ l ∙ ap (λ (v : Row ℕ). put (view t peak) r (withBranch v s (longerBranch s v e))) (sym (view-in r l))
 
   pub view-freed : (r : ℕ) → r < peak → view (put t r (freeRow (t r))) peak ≡ put (view t peak) r (freeRow (view t peak r))
@@ -92,7 +92,7 @@ module _ (test : ℕ → Bool) (n : ℕ) where
       by true f h = let z : _≡_ {A = ℕ} 0 1 = cc in absurd (omega arith)
       by false f h = first-least test n r (omega (arith, ltb-false (first test n) n f))
 
-module _ (sh : Sheet) (t : ℕ → Row ℕ) (peak level p : ℕ) (s : Side) (r : ℕ) where
+module _ (sh : Drawing) (t : ℕ → Row ℕ) (peak level p : ℕ) (s : Side) (r : ℕ) where
   pub tip-of : r < peak → hasTip (placesOf sh) level s p (t r) ≡ true → HasTip (view t peak) s level p r
   unfolding hasTip view
   tip-of l h =

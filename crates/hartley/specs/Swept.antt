@@ -2,32 +2,32 @@
 use Prim.Native.Nat.{ℕ}
 use lib.Dec.{eqb, ltb}
 use lib.IntN.{ℤ, pos, negsuc}
-use Rattle.sheet.specs.Edges.{Sheet}
-use Rattle.steps.specs.Rows.{Row, Record, Edge, Places, Room}
+use Rattle.sheet.specs.Edges.{Drawing}
+use Rattle.steps.specs.Rows.{Row, Record, LevelEdge, Places, Room}
 use Rattle.steps.specs.SweepUp.{Sweep, sweepUp, listEdge, start}
-use Rattle.steps.specs.SweepDown.{Numbers, Reading, sweepDown}
+use Rattle.steps.specs.SweepDown.{Pair, Reading, sweepDown}
 use Rattle.steps.specs.Plain.{plainTable, plainJournal, plainTables}
 
-abbrev pub placesOf : Sheet → Places ℕ
+abbrev pub placesOf : Drawing → Places ℕ
 placesOf sh = record { same = eqb; below = λ p q. ltb (sh .height p) (sh .height q); apart = sh .apart }
 
-abbrev pub roomOf : Sheet → ℕ → ℕ → Room ℕ (ℕ → Row ℕ) (ℕ → Record)
-roomOf sh rows records = record { places = placesOf sh; table = plainTable; journal = plainJournal; rows = rows; records = records }
+abbrev pub plainRoom : Drawing → ℕ → ℕ → Room ℕ (ℕ → Row ℕ) (ℕ → Record)
+plainRoom sh rows records = record { places = placesOf sh; table = plainTable; journal = plainJournal; rows = rows; records = records }
 
 -- the list's edges at level 0
-abbrev pub edgeOf : Sheet → ℕ → Edge ℕ
+abbrev pub edgeOf : Drawing → ℕ → LevelEdge ℕ
 edgeOf sh i = listEdge i (sh .tail i) (sh .head i)
 
 -- the first k edges swept up with so many rows and records, whatever the table and the journal hold before
-abbrev pub sweptTo : Sheet → ℕ → ℕ → (ℕ → Row ℕ) → (ℕ → Record) → ℕ → Sweep (ℕ → Row ℕ) (ℕ → Record)
-sweptTo sh rows records t j k = sweepUp (roomOf sh rows records) (edgeOf sh) (start t j) k
+abbrev pub sweptTo : Drawing → ℕ → ℕ → (ℕ → Row ℕ) → (ℕ → Record) → ℕ → Sweep (ℕ → Row ℕ) (ℕ → Record)
+sweptTo sh rows records t j k = sweepUp (plainRoom sh rows records) (edgeOf sh) (start t j) k
 
 -- all of them
-abbrev pub swept : Sheet → ℕ → ℕ → (ℕ → Row ℕ) → (ℕ → Record) → Sweep (ℕ → Row ℕ) (ℕ → Record)
+abbrev pub swept : Drawing → ℕ → ℕ → (ℕ → Row ℕ) → (ℕ → Record) → Sweep (ℕ → Row ℕ) (ℕ → Record)
 swept sh rows records t j = sweptTo sh rows records t j (sh .edges)
 
 -- a journal's first n records read down, whatever the tables hold before
-abbrev pub readDown : (ℕ → Record) → ℕ → (ℕ → Numbers) → (ℕ → Numbers) → Reading (ℕ → Numbers) (ℕ → Numbers)
+abbrev pub readDown : (ℕ → Record) → ℕ → (ℕ → Pair) → (ℕ → Pair) → Reading (ℕ → Pair) (ℕ → Pair)
 readDown j n table answers = sweepDown plainTables plainJournal j n (record { table = table; answers = answers; polygons = 0 })
 
 -- a sequence number as a natural number; none is below 0

@@ -10,7 +10,7 @@ use lib.ListN.{length, getD}
 use lib.Seq.{length-sets}
 use Rattle.laws.proofs.Deciding.{lt-or-le}
 use Rattle.steps.specs.Rows.{Chain, inRow, closing, Record}
-use Rattle.journal.specs.Layout.{HasRecord, fitting, naturalPart, chainIn, rowNumber, readRecord, writtenIn}
+use Rattle.journal.specs.Layout.{HasRecord, fitting, naturalPart, chainIn, rowNumber, recordAt, writtenIn}
 use Rattle.laws.proofs.Sets.{getD-sets-other, getD-sets-in}
 
 -- the chain's row, where there is one, has 31 bits
@@ -36,8 +36,8 @@ module _ (s : List ℤ) (k : ℕ) (e : Record) where
   unfolding writtenIn
   length-written = length-sets s (4 * k) numbers
 
-  pub written-here : HasRecord s k → Short e → readRecord (writtenIn s k e) k ≡ e
-  unfolding readRecord writtenIn naturalPart
+  pub written-here : HasRecord s k → Short e → recordAt (writtenIn s k e) k ≡ e
+  unfolding recordAt writtenIn naturalPart
   written-here has h =
       let zeroth : 4 * k + 0 ≡ 4 * k = omega arith in
       let level : fitting (e .level) ≡ e .level = omega arith in
@@ -55,8 +55,8 @@ module _ (s : List ℤ) (k : ℕ) (e : Record) where
       at : (j : ℕ) → j < 4 → getD (writtenIn s k e) (4 * k + j) (pos 0) ≡ getD numbers j (pos 0)
       at j l = getD-sets-in (pos 0) numbers s (4 * k) j l has
 
-  pub written-elsewhere : (j : ℕ) → (j ≡ k → ⊥) → readRecord (writtenIn s k e) j ≡ readRecord s j
-  unfolding readRecord writtenIn
+  pub written-elsewhere : (j : ℕ) → (j ≡ k → ⊥) → recordAt (writtenIn s k e) j ≡ recordAt s j
+  unfolding recordAt writtenIn
   written-elsewhere j d =
       let zeroth : 4 * j + 0 ≡ 4 * j = omega arith in
       rw (rw zeroth at (same 0 (omega arith)), same 1 (omega arith), same 2 (omega arith), same 3 (omega arith))

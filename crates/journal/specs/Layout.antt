@@ -43,8 +43,8 @@ abbrev pub Short : Found → Type 0
 Short (At r) = r < 2147483648
 Short Nothing = Unit
 
-unfoldable pub readRecord : List ℤ → ℕ → Record
-readRecord s k =
+unfoldable pub recordAt : List ℤ → ℕ → Record
+recordAt s k =
     record {
       level = naturalPart (getD s (4 * k) (pos 0));
       name = naturalPart (getD s (4 * k + 1) (pos 0));
@@ -55,5 +55,5 @@ readRecord s k =
 unfoldable pub writtenIn : List ℤ → ℕ → Record → List ℤ
 writtenIn s k e = sets s (4 * k) (pos (fitting (e .level)) ∷ pos (fitting (e .name)) ∷ rowNumber (e .chain) ∷ e .offset ∷ [])
 
-unfoldable pub slices : Journal (List ℤ)
-slices = record { read = readRecord; written = writtenIn }
+unfoldable pub recordSlice : Journal (List ℤ)
+recordSlice = record { read = recordAt; written = writtenIn }

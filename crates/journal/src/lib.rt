@@ -8,7 +8,7 @@ ghost use lib.IntN.{pos};
 ghost use lib.ListN.{length, take, replicate};
 ghost use lib.Seq.{sets};
 ghost use Rattle.steps.specs.Rows.{inRow, closing};
-ghost use Rattle.journal.specs.Layout.{recordsIn, HasRecord, fitting, naturalPart, chainIn, chainOf, Short, readRecord, writtenIn};
+ghost use Rattle.journal.specs.Layout.{recordsIn, HasRecord, fitting, naturalPart, chainIn, chainOf, Short, recordAt, writtenIn};
 
 // How many numbers a record has.
 const NUMBERS: usize = 4;
@@ -81,14 +81,14 @@ pub fn write_closing(journal: &mut [i32], k: usize, level: u32, name: usize, off
 
 pub fn level_at(journal: &[i32], k: usize) -> u32
     requires { ⌜ HasRecord (now journal) k ⌝ }
-    ensures { λ l. ⌜ l ≡ readRecord (now (journal .entry)) k .level ⌝ }
+    ensures { λ l. ⌜ l ≡ recordAt (now (journal .entry)) k .level ⌝ }
 {
     natural(journal[NUMBERS * k])
 }
 
 pub fn name_at(journal: &[i32], k: usize) -> usize
     requires { ⌜ HasRecord (now journal) k ⌝ }
-    ensures { λ n. ⌜ (n ≡ readRecord (now (journal .entry)) k .name) × (n < 2147483648) ⌝ }
+    ensures { λ n. ⌜ (n ≡ recordAt (now (journal .entry)) k .name) × (n < 2147483648) ⌝ }
 {
     natural(journal[NUMBERS * k + 1]) as usize
 }
@@ -106,14 +106,14 @@ fn chain_in(z: i32) -> Found
 // The row of a record's chain; none where the record closes an outline.
 pub fn chain_at(journal: &[i32], k: usize) -> Found
     requires { ⌜ HasRecord (now journal) k ⌝ }
-    ensures { λ f. ⌜ (chainOf f ≡ readRecord (now (journal .entry)) k .chain) × Short f ⌝ }
+    ensures { λ f. ⌜ (chainOf f ≡ recordAt (now (journal .entry)) k .chain) × Short f ⌝ }
 {
     chain_in(journal[NUMBERS * k + 2])
 }
 
 pub fn offset_at(journal: &[i32], k: usize) -> i32
     requires { ⌜ HasRecord (now journal) k ⌝ }
-    ensures { λ z. ⌜ z ≡ readRecord (now (journal .entry)) k .offset ⌝ }
+    ensures { λ z. ⌜ z ≡ recordAt (now (journal .entry)) k .offset ⌝ }
 {
     journal[NUMBERS * k + 3]
 }

@@ -25,11 +25,11 @@ use Rattle.steps.specs.declared.End.the-variants.{Done, NoFreeRow, Overrun}
 use Rattle.steps.specs.SweepUp.{listEdge, start}
 use Rattle.steps.specs.SweepDown.{sweepDown}
 use Rattle.steps.proofs.Bounded.{Within, sweep-within, edge-within, polygons-within}
-use Rattle.journal.specs.Layout.{slices}
+use Rattle.journal.specs.Layout.{recordSlice}
 use Rattle.sweep.specs.declared.Swept.{Swept}
-use Rattle.sweep.specs.Slices.{room, roomOf, swept, isDone}
+use Rattle.sweep.specs.Slices.{room, lentRoom, swept, isDone}
 use Rattle.sweep.specs.Lookup.{tables, reading}
-use Rattle.numbering.specs.Outcome.{Lent, left, sweptUp, readDown, afterSweep, sweeps, inJournal, wholeJournal, afterChecks, callOf, outcome}
+use Rattle.numbering.specs.Outcome.{Lent, leaving, sweptUp, readDown, afterSweep, sweeps, inJournal, wholeJournal, afterChecks, callOf, outcome}
 
 pub is-done-end : (u : End) → isDone u ≡ true → u ≡ Done
 is-done-end Done h = refl
@@ -38,9 +38,9 @@ is-done-end Overrun h = absurd (not-both h refl)
 
 -- the numbers of a sweep up fit
 module _ (l : Lent) (few : edgesIn (l .list) ≤ 4096) (eight : length (l .journal) ≡ 8 * edgesIn (l .list)) where
-  within : Within (roomOf (l .rows) (l .journal)) (sweptUp l .state)
+  within : Within (lentRoom (l .rows) (l .journal)) (sweptUp l .state)
   unfolding sweptUp room
-  within = sweep-within (roomOf (l .rows) (l .journal)) _ (edgesIn (l .list)) (l .rows) (l .journal)
+  within = sweep-within (lentRoom (l .rows) (l .journal)) _ (edgesIn (l .list)) (l .rows) (l .journal)
 
   pub records-fit : sweptUp l .state .records ≤ 8192
   unfolding room
@@ -51,20 +51,20 @@ module _ (l : Lent) (few : edgesIn (l .list) ≤ 4096) (eight : length (l .journ
 
   pub edge-fits : sweptUp l .edge ≤ 4096
   unfolding sweptUp
-  edge-fits = omega (arith, edge-within (roomOf (l .rows) (l .journal)) (λ i. listEdge i (edgeAt (l .list) i .tail) (edgeAt (l .list) i .head)) (start (l .rows) (l .journal)) (edgesIn (l .list)))
+  edge-fits = omega (arith, edge-within (lentRoom (l .rows) (l .journal)) (λ i. listEdge i (edgeAt (l .list) i .tail) (edgeAt (l .list) i .head)) (start (l .rows) (l .journal)) (edgesIn (l .list)))
 
 -- the state after the sweep up, as the code has it
 module _ (l : Lent) {rows₁ journal₁ : List ℤ} {w : Swept} (E : swept rows₁ journal₁ w ≡ sweptUp l) (same-journal : length journal₁ ≡ length (l .journal)) where
   -- not done: everything is given up
-  gives-up : (u : End) → isDone u ≡ false → left (answer.Refused (NoRow (w .edge))) (l .polygons) (l .sequences) (replicate (length (l .journal)) (pos 0)) (replicate (length (l .rows)) (pos 0)) ≡ afterSweep l (swept rows₁ journal₁ w) u
+  gives-up : (u : End) → isDone u ≡ false → leaving (answer.Refused (NoRow (w .edge))) (l .polygons) (l .sequences) (replicate (length (l .journal)) (pos 0)) (replicate (length (l .rows)) (pos 0)) ≡ afterSweep l (swept rows₁ journal₁ w) u
   gives-up Done h = absurd (not-both refl h)
   gives-up NoFreeRow h = refl
   gives-up Overrun h = refl
 
-  pub when-stopped : isDone (w .progress .end) ≡ false → {journal₂ rows₂ : List ℤ} → length rows₁ ≡ length (l .rows) → journal₂ ≡ take (4 * 0) journal₁ ++ replicate (length journal₁ - 4 * 0) (pos 0) → rows₂ ≡ replicate (length rows₁) (pos 0) → left (answer.Refused (NoRow (w .edge))) (l .polygons) (l .sequences) journal₂ rows₂ ≡ sweeps l
+  pub when-stopped : isDone (w .progress .end) ≡ false → {journal₂ rows₂ : List ℤ} → length rows₁ ≡ length (l .rows) → journal₂ ≡ take (4 * 0) journal₁ ++ replicate (length journal₁ - 4 * 0) (pos 0) → rows₂ ≡ replicate (length rows₁) (pos 0) → leaving (answer.Refused (NoRow (w .edge))) (l .polygons) (l .sequences) journal₂ rows₂ ≡ sweeps l
   unfolding sweeps
   when-stopped h {journal₂} {rows₂} same-rows j r =
-      (λ i. left (answer.Refused (NoRow (w .edge))) (l .polygons) (l .sequences) ((j ∙ none-taken) i) ((r ∙ ap (λ n. replicate n (pos 0)) same-rows) i))
+      (λ i. leaving (answer.Refused (NoRow (w .edge))) (l .polygons) (l .sequences) ((j ∙ none-taken) i) ((r ∙ ap (λ n. replicate n (pos 0)) same-rows) i))
       ∙ gives-up (w .progress .end) h
       ∙ λ i. afterSweep l (E i) (E i .state .end)
     where
@@ -72,19 +72,19 @@ module _ (l : Lent) {rows₁ journal₁ : List ℤ} {w : Swept} (E : swept rows�
       none-taken = ap (λ n. take 0 journal₁ ++ replicate n (pos 0)) (let n : length journal₁ - 0 ≡ length (l .journal) = omega arith in n)
 
   -- done: the journal's records and zeros, the numbers read down
-  module _ (d : w .progress .end ≡ Done) (fits : 4 * w .progress .records ≤ length (l .journal)) {count : ℕ} {p₂ q₂ : List ℕ} {rows₂ : List ℤ} (D : reading rows₂ p₂ q₂ count ≡ sweepDown tables slices journal₁ (w .progress .records) (reading rows₁ (l .polygons) (l .sequences) 0)) where
+  module _ (d : w .progress .end ≡ Done) (fits : 4 * w .progress .records ≤ length (l .journal)) {count : ℕ} {p₂ q₂ : List ℕ} {rows₂ : List ℤ} (D : reading rows₂ p₂ q₂ count ≡ sweepDown tables recordSlice journal₁ (w .progress .records) (reading rows₁ (l .polygons) (l .sequences) 0)) where
     pub count-fits : count ≤ w .progress .records
-    count-fits = omega (arith, ap (λ v. v .polygons) D, polygons-within tables slices journal₁ (w .progress .records) (reading rows₁ (l .polygons) (l .sequences) 0))
+    count-fits = omega (arith, ap (λ v. v .polygons) D, polygons-within tables recordSlice journal₁ (w .progress .records) (reading rows₁ (l .polygons) (l .sequences) 0))
 
     read-is : reading rows₂ p₂ q₂ count ≡ readDown l (swept rows₁ journal₁ w)
     unfolding readDown
     read-is = D
 
-    pub when-done : {journal₂ rows₃ : List ℤ} → length rows₂ ≡ length (l .rows) → journal₂ ≡ take (4 * w .progress .records) journal₁ ++ replicate (length journal₁ - 4 * w .progress .records) (pos 0) → rows₃ ≡ replicate (length rows₂) (pos 0) → left (answer.Accepted count (w .progress .peak) (w .progress .records)) p₂ q₂ journal₂ rows₃ ≡ sweeps l
+    pub when-done : {journal₂ rows₃ : List ℤ} → length rows₂ ≡ length (l .rows) → journal₂ ≡ take (4 * w .progress .records) journal₁ ++ replicate (length journal₁ - 4 * w .progress .records) (pos 0) → rows₃ ≡ replicate (length rows₂) (pos 0) → leaving (answer.Accepted count (w .progress .peak) (w .progress .records)) p₂ q₂ journal₂ rows₃ ≡ sweeps l
     unfolding sweeps
     when-done {journal₂} {rows₃} same-rows j r =
-        (λ i. left (answer.Accepted count (w .progress .peak) (w .progress .records)) p₂ q₂ ((j ∙ then-zeros) i) ((r ∙ ap (λ n. replicate n (pos 0)) same-rows) i))
-        ∙ (λ i. left (answer.Accepted (read-is i .polygons) (w .progress .peak) (w .progress .records)) (read-is i .answers .polygons) (read-is i .answers .sequences) (take (4 * w .progress .records) journal₁ ++ replicate (length (l .journal) - length (take (4 * w .progress .records) journal₁)) (pos 0)) (replicate (length (l .rows)) (pos 0)))
+        (λ i. leaving (answer.Accepted count (w .progress .peak) (w .progress .records)) p₂ q₂ ((j ∙ then-zeros) i) ((r ∙ ap (λ n. replicate n (pos 0)) same-rows) i))
+        ∙ (λ i. leaving (answer.Accepted (read-is i .polygons) (w .progress .peak) (w .progress .records)) (read-is i .answers .polygons) (read-is i .answers .sequences) (take (4 * w .progress .records) journal₁ ++ replicate (length (l .journal) - length (take (4 * w .progress .records) journal₁)) (pos 0)) (replicate (length (l .rows)) (pos 0)))
         ∙ (λ i. afterSweep l (swept rows₁ journal₁ w) (sym d i))
         ∙ λ i. afterSweep l (E i) (E i .state .end)
       where
@@ -96,9 +96,9 @@ module _ (l : Lent) (long : 8 * edgesIn (l .list) ≤ length (l .journal)) where
   pub part-long : length (inJournal l .journal) ≡ 8 * edgesIn (l .list)
   part-long = length-take-le (8 * edgesIn (l .list)) (l .journal) long
 
-  pub behind : {a : Answer} {p q : List ℕ} {part journal₂ rows₂ : List ℤ} → left a p q part rows₂ ≡ sweeps (inJournal l) → length part ≡ 8 * edgesIn (l .list) → journal₂ ≡ take (4 * (2 * edgesIn (l .list))) (part ++ drop (8 * edgesIn (l .list)) (l .journal)) ++ replicate (length (part ++ drop (8 * edgesIn (l .list)) (l .journal)) - 4 * (2 * edgesIn (l .list))) (pos 0) → left a p q journal₂ rows₂ ≡ afterChecks l Passed
+  pub behind : {a : Answer} {p q : List ℕ} {part journal₂ rows₂ : List ℤ} → leaving a p q part rows₂ ≡ sweeps (inJournal l) → length part ≡ 8 * edgesIn (l .list) → journal₂ ≡ take (4 * (2 * edgesIn (l .list))) (part ++ drop (8 * edgesIn (l .list)) (l .journal)) ++ replicate (length (part ++ drop (8 * edgesIn (l .list)) (l .journal)) - 4 * (2 * edgesIn (l .list))) (pos 0) → leaving a p q journal₂ rows₂ ≡ afterChecks l Passed
   behind {a} {p} {q} {part} {journal₂} {rows₂} E same j =
-      (λ i. left a p q ((j ∙ whole) i) rows₂) ∙ (λ i. wholeJournal (length (l .journal)) (E i))
+      (λ i. leaving a p q ((j ∙ whole) i) rows₂) ∙ (λ i. wholeJournal (length (l .journal)) (E i))
     where
       front : take (4 * (2 * edgesIn (l .list))) (part ++ drop (8 * edgesIn (l .list)) (l .journal)) ≡ part
       front = take-at part (drop (8 * edgesIn (l .list)) (l .journal)) (4 * (2 * edgesIn (l .list))) (omega arith)
@@ -126,9 +126,9 @@ no-ten (row-8 a b d) = refl
 no-ten (row-9 a b d e) = refl
 no-ten (no-row a b d e) = refl
 
-pub when-refused : (l : Lent) (r : Refusal) → checked (callOf l) ≡ check.Refused r → left (answer.Refused r) (l .polygons) (l .sequences) (l .journal) (l .rows) ≡ outcome l
+pub when-refused : (l : Lent) (r : Refusal) → checked (callOf l) ≡ check.Refused r → leaving (answer.Refused r) (l .polygons) (l .sequences) (l .journal) (l .rows) ≡ outcome l
 unfolding outcome
-when-refused l r e = ap (λ t. left (answer.Refused r) (l .polygons) (l .sequences) (cond t (zeros (l .journal)) (l .journal)) (cond t (zeros (l .rows)) (l .rows))) (sym ten) ∙ ap (afterChecks l) (sym e)
+when-refused l r e = ap (λ t. leaving (answer.Refused r) (l .polygons) (l .sequences) (cond t (zeros (l .journal)) (l .journal)) (cond t (zeros (l .rows)) (l .rows))) (sym ten) ∙ ap (afterChecks l) (sym e)
   where
     ten : eqb (numberOf r) 10 ≡ false
     ten = ap isTen (sym e) ∙ no-ten (row (callOf l))

@@ -25,7 +25,7 @@ use Rattle.rows.specs.Layout as rows
 use Rattle.rows.specs.Layout.{pointPlaces, lookRow, openedIn, movedIn, finishedIn, freedIn}
 use Rattle.rows.proofs.Writing.{OnlyRow, other-row, opened-only, moved-only, finished-only, freed-only, opened-here, moved-here, finished-here, freed-here}
 use Rattle.journal.specs.Layout as journal
-use Rattle.journal.specs.Layout.{fitting, rowNumber, readRecord, writtenIn}
+use Rattle.journal.specs.Layout.{fitting, rowNumber, recordAt, writtenIn}
 use Rattle.journal.proofs.Writing.{ShortChain, length-written, written-here, written-elsewhere}
 
 -- a point and its rank
@@ -46,7 +46,7 @@ recordNumbers e = pos (fitting (e .level)) ∷ pos (fitting (e .name)) ∷ rowNu
 -- a slice holds the first k records, and has room for m
 pub record HoldsRecords (m k : ℕ) (s : List ℤ) (j : ℕ → Record) : Type 0 where
   pub long : 4 * m ≤ length s
-  pub entry : (i : ℕ) → i < k → readRecord s i ≡ j i
+  pub entry : (i : ℕ) → i < k → recordAt s i ≡ j i
   pub number : (i q : ℕ) → i < k → q < 4 → getD s (4 * i + q) (pos 0) ≡ getD (recordNumbers (j i)) q (pos 0)
 
 new-alike : (level : ℕ) {p : Point} {q : ℕ} → Ranked p q → AlikeRow Ranked (newRow level p) (newRow level q)
@@ -127,13 +127,13 @@ written-holds {m} {k} {s} {j} {entry} lm H l h =
 
 -- the two rooms, with as many rows and records
 abbrev pub sliceRoom : ℕ → ℕ → Room Point (List ℤ) (List ℤ)
-sliceRoom n m = record { places = pointPlaces; table = rows.slices; journal = journal.slices; rows = n; records = m }
+sliceRoom n m = record { places = pointPlaces; table = rows.rowSlice; journal = journal.recordSlice; rows = n; records = m }
 
 abbrev pub plainRoom : ℕ → ℕ → Room ℕ (ℕ → Row ℕ) (ℕ → Record)
 plainRoom n m = record { places = record { same = eqb; below = ltb; apart = λ p. false }; table = plainTable; journal = plainJournal; rows = n; records = m }
 
 pub matched : (n m most : ℕ) → m ≤ most → most < 2147483648 → Match (sliceRoom n m) (plainRoom n m) Ranked (HoldsRows n) (HoldsRecords m) most
-unfolding pointPlaces rows.slices journal.slices plainTable plainJournal
+unfolding pointPlaces rows.rowSlice journal.recordSlice plainTable plainJournal
 matched n m most l u =
     record {
       same = λ h k. rank-same _ _ (h .inside) (k .inside) ∙ λ i. eqb (h .is-rank i) (k .is-rank i);

@@ -10,7 +10,7 @@ use lib.ListN.{length, getD, length-set}
 use lib.Seq.{getD-set-same, getD-set-other}
 use borrow.Author.Tests.{eq-eqb, ne-eqb}
 use Rattle.laws.proofs.Deciding.{eq-or-ne}
-use Rattle.steps.specs.SweepDown.{Numbers}
+use Rattle.steps.specs.SweepDown.{Pair}
 use Rattle.steps.specs.Plain.{put, plainTables}
 use Rattle.steps.proofs.AlikeDown.{Holding, MatchDown}
 use Rattle.journal.specs.Layout.{naturalPart}
@@ -23,17 +23,17 @@ abbrev pub fitting : ℕ → ℕ → Holding
 fitting n edges = record { Row = λ r. r < n; InRow = λ r v. (r < n) × Fits edges v; InAnswer = λ e v. (e < edges) × Fits edges v }
 
 -- a slice of n rows holds a look-up table
-pub record HoldsNumbers (n : ℕ) (t : ℕ → Numbers) (s : List ℤ) : Type 0 where
+pub record HoldsNumbers (n : ℕ) (t : ℕ → Pair) (s : List ℤ) : Type 0 where
   pub long : 8 * n ≤ length s
   pub row : (r : ℕ) → r < n → t r ≡ numbersIn s r
 
 -- two lists hold the answers of the edges
-pub record HoldsAnswers (edges : ℕ) (a : ℕ → Numbers) (l : Answers) : Type 0 where
+pub record HoldsAnswers (edges : ℕ) (a : ℕ → Pair) (l : Answers) : Type 0 where
   pub long : (length (l .polygons) ≡ edges) × (length (l .sequences) ≡ edges)
   pub polygon : (e : ℕ) → e < edges → getD (l .polygons) e 0 ≡ a e .polygon
   pub sequence : (e : ℕ) → e < edges → getD (l .sequences) e 0 ≡ naturalPart (a e .sequence)
 
-given-holds : {n edges : ℕ} {t : ℕ → Numbers} {s : List ℤ} → edges ≤ 4096 → HoldsNumbers n t s → (r : ℕ) (v : Numbers) → (r < n) × Fits edges v → HoldsNumbers n (put t r v) (givenIn s r v)
+given-holds : {n edges : ℕ} {t : ℕ → Pair} {s : List ℤ} → edges ≤ 4096 → HoldsNumbers n t s → (r : ℕ) (v : Pair) → (r < n) × Fits edges v → HoldsNumbers n (put t r v) (givenIn s r v)
 given-holds {n} {edges} {t} {s} few H r v (l, f) =
     record {
       long = omega (arith, H .long, length-given s r v);
@@ -43,7 +43,7 @@ given-holds {n} {edges} {t} {s} few H r v (l, f) =
     small : (z : ℤ) → z ≡ pos (f .at) → lib.Signed.mag z < 2147483648
     small z e = rw e (omega (arith, f .at-small))
 
-answered-holds : {edges : ℕ} {a : ℕ → Numbers} {l : Answers} → HoldsAnswers edges a l → (e : ℕ) (v : Numbers) → (e < edges) × Fits edges v → HoldsAnswers edges (put a e v) (answeredIn l e v)
+answered-holds : {edges : ℕ} {a : ℕ → Pair} {l : Answers} → HoldsAnswers edges a l → (e : ℕ) (v : Pair) → (e < edges) × Fits edges v → HoldsAnswers edges (put a e v) (answeredIn l e v)
 unfolding answeredIn
 answered-holds {edges} {a} {l} H e v (h, f) =
     record {

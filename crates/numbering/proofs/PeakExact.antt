@@ -13,7 +13,7 @@ use Rattle.sheet.specs.declared.Answer.the-variants as answer
 use Rattle.sheet.specs.declared.Answer.the-variants.{Accepted}
 use Rattle.sheet.specs.declared.Check.the-variants as check
 use Rattle.sheet.specs.declared.Refusal.the-variants.{NoRow}
-use Rattle.sheet.specs.Edges.{sheetOf}
+use Rattle.sheet.specs.Edges.{drawingOf}
 use Rattle.sheet.specs.Answers.{checked, followedByZeros}
 use Rattle.sheet.proofs.OneNumbering.{same-polygon, same-sequence, same-polygons}
 use Rattle.checks.proofs.Passed.{passed}
@@ -52,7 +52,7 @@ same-numbers {m} {n} {s} {s′} {j} H K l =
 -- plain runs with two numbers of rows
 module _ (l : Lent) (rows : List ℤ) (ok : checked (callOf l) ≡ check.Passed) where
   abbrev plain : ℕ → Sweep (ℕ → Row ℕ) (ℕ → Record)
-  plain n = swept (sheetOf (l .list)) n (recordsIn (inJournal l .journal)) anyRows anyRecords
+  plain n = swept (drawingOf (l .list)) n (recordsIn (inJournal l .journal)) anyRows anyRecords
 
   module _ (d : plain (rowsIn (l .rows)) .state .end ≡ Done) where
     same-run : plain (rowsIn (l .rows)) .state .peak ≤ rowsIn rows → plain (rowsIn rows) ≡ plain (rowsIn (l .rows))
@@ -103,11 +103,11 @@ module _ (l : Lent) (rows : List ℤ) (ok : checked (callOf l) ≡ check.Passed)
         ap (λ n. take (4 * n) (sweptUp (inJournal l′) .state .journal)) same-records ∙ same-numbers H (runs-as l ok .holds) (runs-as l ok .kept)
 
     same-polygon-list : readDown (inJournal l′) (sweptUp (inJournal l′)) .answers .polygons ≡ readDown (inJournal l) (sweptUp (inJournal l)) .answers .polygons
-    unfolding sheetOf
+    unfolding drawingOf
     same-polygon-list = ext-getD 0 _ _ (lists-long l′ ok done-too .0 ∙ sym (lists-long l ok d .0)) (λ e u. same-polygon (passed (callOf l) ok .sheet) (numbers l ok d) (numbers l′ ok done-too) e (omega (arith, u, lists-long l′ ok done-too .0)))
 
     same-sequence-list : readDown (inJournal l′) (sweptUp (inJournal l′)) .answers .sequences ≡ readDown (inJournal l) (sweptUp (inJournal l)) .answers .sequences
-    unfolding sheetOf
+    unfolding drawingOf
     same-sequence-list = ext-getD 0 _ _ (lists-long l′ ok done-too .1 ∙ sym (lists-long l ok d .1)) (λ e u. same-sequence (passed (callOf l) ok .sheet) (numbers l ok d) (numbers l′ ok done-too) e (omega (arith, u, lists-long l′ ok done-too .1)))
 
     same-count : readDown (inJournal l′) (sweptUp (inJournal l′)) .polygons ≡ readDown (inJournal l) (sweptUp (inJournal l)) .polygons

@@ -11,7 +11,7 @@ use Rattle.sheet.specs.declared.Check.{Check}
 use Rattle.sheet.specs.declared.Check.the-variants as check
 use Rattle.sheet.specs.declared.Refusal.{Refusal}
 use Rattle.sheet.specs.declared.Refusal.the-variants.{NoRow}
-use Rattle.sheet.specs.Edges.{edgesIn, sheetOf}
+use Rattle.sheet.specs.Edges.{edgesIn, drawingOf}
 use Rattle.sheet.specs.Numbering.{Numbering}
 use Rattle.sheet.specs.Passing.{Enough}
 use Rattle.sheet.specs.Answers.{checked}
@@ -43,16 +43,16 @@ way l = by (checked (callOf l)) refl
     by check.Passed e = way-after l e (no-overrun l e)
 
 module _ (l : Lent) where
-  numbered : (polygons peak records : ℕ) → outcome l .answer ≡ Accepted polygons peak records → Numbering (sheetOf (l .list)) (λ e. getD (outcome l .polygons) e 0) (λ e. getD (outcome l .sequences) e 0) polygons
+  numbered : (polygons peak records : ℕ) → outcome l .answer ≡ Accepted polygons peak records → Numbering (drawingOf (l .list)) (λ e. getD (outcome l .polygons) e 0) (λ e. getD (outcome l .sequences) e 0) polygons
   numbered p k m q = by (way l)
     where
-      by : Way l → Numbering (sheetOf (l .list)) (λ e. getD (outcome l .polygons) e 0) (λ e. getD (outcome l .sequences) e 0) p
+      by : Way l → Numbering (drawingOf (l .list)) (λ e. getD (outcome l .polygons) e 0) (λ e. getD (outcome l .sequences) e 0) p
       by (at-checks r e n) = let f : answer.Refused r ≡ Accepted p k m = sym (ap (λ x. x .answer) e) ∙ q in let z : _≡_ {A = ℕ} 0 1 = cc in absurd (omega arith)
       by (no-row ok d e) = let f : answer.Refused (NoRow (sweptUp (inJournal l) .edge)) ≡ Accepted p k m = sym (ap (λ x. x .answer) e) ∙ q in let z : _≡_ {A = ℕ} 0 1 = cc in absurd (omega arith)
       by (done ok d e) =
           let f : Accepted (readDown (inJournal l) (sweptUp (inJournal l)) .polygons) (sweptUp (inJournal l) .state .peak) (sweptUp (inJournal l) .state .records) ≡ Accepted p k m = sym (ap (λ x. x .answer) e) ∙ q in
           let g : readDown (inJournal l) (sweptUp (inJournal l)) .polygons ≡ p = cc in
-          subst (λ (x : Left). Numbering (sheetOf (l .list)) (λ e. getD (x .polygons) e 0) (λ e. getD (x .sequences) e 0) p) (sym e) (subst (λ (n : ℕ). Numbering (sheetOf (l .list)) (λ e. getD (readDown (inJournal l) (sweptUp (inJournal l)) .answers .polygons) e 0) (λ e. getD (readDown (inJournal l) (sweptUp (inJournal l)) .answers .sequences) e 0) n) g (numbers l ok d))
+          subst (λ (x : Left). Numbering (drawingOf (l .list)) (λ e. getD (x .polygons) e 0) (λ e. getD (x .sequences) e 0) p) (sym e) (subst (λ (n : ℕ). Numbering (drawingOf (l .list)) (λ e. getD (readDown (inJournal l) (sweptUp (inJournal l)) .answers .polygons) e 0) (λ e. getD (readDown (inJournal l) (sweptUp (inJournal l)) .answers .sequences) e 0) n) g (numbers l ok d))
 
   few-records : (polygons peak records : ℕ) → outcome l .answer ≡ Accepted polygons peak records → records + polygons ≤ 2 * edgesIn (l .list)
   few-records p k m q = by (way l)
@@ -66,7 +66,7 @@ module _ (l : Lent) where
           let h : sweptUp (inJournal l) .state .records ≡ m = cc in
           omega (arith, g, h, records-and-polygons l ok d)
 
-  enough-rows : checked (callOf l) ≡ check.Passed → (polygon sequence : ℕ → ℕ) (n : ℕ) → Numbering (sheetOf (l .list)) polygon sequence n → (rows : ℕ) → Enough (sheetOf (l .list)) polygon rows → rows ≤ rowsIn (l .rows) → (polygons : ℕ) × (peak : ℕ) × (records : ℕ) × (outcome l .answer ≡ Accepted polygons peak records)
+  enough-rows : checked (callOf l) ≡ check.Passed → (polygon sequence : ℕ → ℕ) (n : ℕ) → Numbering (drawingOf (l .list)) polygon sequence n → (rows : ℕ) → Enough (drawingOf (l .list)) polygon rows → rows ≤ rowsIn (l .rows) → (polygons : ℕ) × (peak : ℕ) × (records : ℕ) × (outcome l .answer ≡ Accepted polygons peak records)
   enough-rows ok polygon sequence n N rows E h = by (way l)
     where
       by : Way l → (polygons : ℕ) × (peak : ℕ) × (records : ℕ) × (outcome l .answer ≡ Accepted polygons peak records)

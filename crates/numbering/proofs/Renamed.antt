@@ -3,10 +3,10 @@ use mathlib.Core.Path.{_≡_, sym, ap, _∙_}
 use mathlib.Core.Logic.{_⊎_, inl, inr, ⊎-elim}
 use Prim.Native.Nat.{ℕ, suc, _<_}
 use native.Mathlib.Omega.{arith}
-use Rattle.sheet.specs.Edges.{Sheet}
+use Rattle.sheet.specs.Edges.{Drawing}
 use Rattle.sheet.specs.Numbering.{Numbering}
 
-module _ {sh : Sheet} {polygon sequence polygon′ sequence′ : ℕ → ℕ} {polygons : ℕ} (p : (e : ℕ) → e < sh .edges → polygon′ e ≡ polygon e) (q : (e : ℕ) → e < sh .edges → sequence′ e ≡ sequence e) (A : Numbering sh polygon sequence polygons) where
+module _ {sh : Drawing} {polygon sequence polygon′ sequence′ : ℕ → ℕ} {polygons : ℕ} (p : (e : ℕ) → e < sh .edges → polygon′ e ≡ polygon e) (q : (e : ℕ) → e < sh .edges → sequence′ e ≡ sequence e) (A : Numbering sh polygon sequence polygons) where
   pub numbering-same : Numbering sh polygon′ sequence′ polygons
   numbering-same = record {
     from-one = λ e l. let a = A .from-one e l in (omega (arith, p e l, a .0), omega (arith, p e l, a .1));

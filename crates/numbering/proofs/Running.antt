@@ -9,7 +9,7 @@ use lib.IntN.{ℤ, pos, negsuc}
 use lib.ListN.{length, getD}
 use lib.Seq.{length-take-le}
 use Rattle.sheet.specs.declared.Check.the-variants.{Passed}
-use Rattle.sheet.specs.Edges.{Sheet, edgeAt, edgesIn, sheetOf}
+use Rattle.sheet.specs.Edges.{Drawing, edgeAt, edgesIn, drawingOf}
 use Rattle.sheet.specs.Numbering.{Numbering}
 use Rattle.sheet.specs.Passing.{Enough}
 use Rattle.sheet.specs.Answers.{checked}
@@ -17,12 +17,12 @@ use Rattle.checks.proofs.Passed.{AllPassed, passed}
 use Rattle.steps.specs.declared.End.the-variants.{Done, NoFreeRow}
 use Rattle.steps.specs.Rows.{Row, Record, closing}
 use Rattle.steps.specs.SweepUp.{Sweep, listEdge, start}
-use Rattle.steps.specs.SweepDown.{Numbers, Reading}
+use Rattle.steps.specs.SweepDown.{Pair, Reading}
 use Rattle.steps.specs.Plain.{newRow, plainTables, plainJournal}
 use Rattle.steps.proofs.Alike.{Match, Alike, AlikeSweep, start-alike, sweep-alike}
 use Rattle.steps.proofs.AlikeDown.{MatchDown, AlikeReading, down-alike}
 use Rattle.rows.specs.Layout.{rowsIn}
-use Rattle.journal.specs.Layout.{slices, recordsIn, naturalPart}
+use Rattle.journal.specs.Layout.{recordSlice, recordsIn, naturalPart}
 use Rattle.sweep.specs.Slices.{room}
 use Rattle.sweep.specs.Lookup.{numbersIn, tables, reading}
 use Rattle.hartley.specs.Swept.{swept, natural}
@@ -48,8 +48,8 @@ module _ (l : Lent) (ok : checked (callOf l) ≡ Passed) where
   abbrev all : AllPassed (callOf l)
   all = passed (callOf l) ok
 
-  abbrev pub sheet : Sheet
-  sheet = sheetOf (l .list)
+  abbrev pub sheet : Drawing
+  sheet = drawingOf (l .list)
 
   abbrev edges : ℕ
   edges = edgesIn (l .list)
@@ -67,14 +67,14 @@ module _ (l : Lent) (ok : checked (callOf l) ≡ Passed) where
   records = recordsIn part
 
   enough-records : 2 * sheet .edges ≤ records
-  unfolding sheetOf
+  unfolding drawingOf
   enough-records = omega (arith, part-long)
 
   few-records : records ≤ 8192
   few-records = omega (arith, part-long, all .few)
 
   few : sheet .edges ≤ 4096
-  unfolding sheetOf
+  unfolding drawingOf
   few = all .few
 
   abbrev plain : Sweep (ℕ → Row ℕ) (ℕ → Record)
@@ -90,7 +90,7 @@ module _ (l : Lent) (ok : checked (callOf l) ≡ Passed) where
       (record { long = omega arith; entry = λ i h. absurd (omega arith); number = λ i q h u. absurd (omega arith) })
 
   alike : AlikeSweep M (sweptUp (inJournal l)) plain
-  unfolding sweptUp room sheetOf
+  unfolding sweptUp room drawingOf
   alike =
       sweep-alike M (λ i. listEdge i (edgeAt (l .list) i .tail) (edgeAt (l .list) i .head)) (λ i. listEdge i (sheet .tail i) (sheet .head i)) edges
       (λ i h. record { name = refl; small = omega (arith, h, all .few); tail = record { inside = all .tails-in-range i h; is-rank = refl }; head = record { inside = all .heads-in-range i h; is-rank = refl }; length = refl })
@@ -104,13 +104,13 @@ module _ (l : Lent) (ok : checked (callOf l) ≡ Passed) where
     abbrev plain-done : plain .state .end ≡ Done
     plain-done = sym same-end ∙ done
 
-    abbrev anyNumbers : ℕ → Numbers
+    abbrev anyNumbers : ℕ → Pair
     anyNumbers r = numbersIn (sweptUp (inJournal l) .state .rows) r
 
-    abbrev anyAnswers : ℕ → Numbers
+    abbrev anyAnswers : ℕ → Pair
     anyAnswers e = record { polygon = getD (l .polygons) e 0; sequence = pos (getD (l .sequences) e 0) }
 
-    abbrev plainRead : Reading (ℕ → Numbers) (ℕ → Numbers)
+    abbrev plainRead : Reading (ℕ → Pair) (ℕ → Pair)
     plainRead = results.down (all .sheet) few rows records enough-records anyRows anyRecords plain-done anyNumbers anyAnswers
 
     abbrev D : MatchDown plainTables tables (HoldsNumbers rows) (HoldsAnswers edges) (fitting rows edges)
@@ -125,27 +125,27 @@ module _ (l : Lent) (ok : checked (callOf l) ≡ Passed) where
           polygons = refl;
         }
 
-    same-records : (k : ℕ) → k < plain .state .records → plainJournal .read (plain .state .journal) k ≡ slices .read (sweptUp (inJournal l) .state .journal) k
-    unfolding plainJournal slices
+    same-records : (k : ℕ) → k < plain .state .records → plainJournal .read (plain .state .journal) k ≡ recordSlice .read (sweptUp (inJournal l) .state .journal) k
+    unfolding plainJournal recordSlice
     same-records k h = sym (alike .state .journal .entry k (omega (arith, h, alike .state .records)))
 
     same-read : AlikeReading D plainRead (readDown (inJournal l) (sweptUp (inJournal l)))
-    unfolding readDown sheetOf
+    unfolding readDown drawingOf
     same-read =
         rw (alike .state .records)
-        (down-alike D plainJournal slices (plain .state .journal) (sweptUp (inJournal l) .state .journal) (plain .state .records) same-records same-begin
+        (down-alike D plainJournal recordSlice (plain .state .journal) (sweptUp (inJournal l) .state .journal) (plain .state .records) same-records same-begin
         (results.all-fits (all .sheet) few rows records enough-records anyRows anyRecords plain-done anyNumbers anyAnswers (fitting rows edges) (λ r h. h) (λ r v h f. (h, f)) (λ e v h f. (h, f))))
 
     -- demand 2, and the records
     pub numbers : Numbering sheet (λ e. getD (readDown (inJournal l) (sweptUp (inJournal l)) .answers .polygons) e 0) (λ e. getD (readDown (inJournal l) (sweptUp (inJournal l)) .answers .sequences) e 0) (readDown (inJournal l) (sweptUp (inJournal l)) .polygons)
-    unfolding sheetOf
+    unfolding drawingOf
     numbers =
         rw (← same-read .polygons)
         (numbering-same (λ e h. same-read .answers .polygon e h) (λ e h. same-read .answers .sequence e h ∙ natural-same (plainRead .answers e .sequence))
         (results.numbering (all .sheet) few rows records enough-records anyRows anyRecords plain-done anyNumbers anyAnswers (λ p q. refl)))
 
     pub records-and-polygons : sweptUp (inJournal l) .state .records + readDown (inJournal l) (sweptUp (inJournal l)) .polygons ≤ 2 * edges
-    unfolding sheetOf
+    unfolding drawingOf
     records-and-polygons = omega (arith, results.few-records (all .sheet) few rows records enough-records anyRows anyRecords plain-done anyNumbers anyAnswers, alike .state .records, same-read .polygons)
 
   -- no other end: done, or no free row
@@ -158,10 +158,10 @@ module _ (l : Lent) (ok : checked (callOf l) ≡ Passed) where
 
   -- the plain run tells how the call ended
   pub record RunsAs : Type 0 where
-    pub end : sweptUp (inJournal l) .state .end ≡ swept (sheetOf (l .list)) (rowsIn (l .rows)) (recordsIn (inJournal l .journal)) anyRows anyRecords .state .end
-    pub peak : sweptUp (inJournal l) .state .peak ≡ swept (sheetOf (l .list)) (rowsIn (l .rows)) (recordsIn (inJournal l .journal)) anyRows anyRecords .state .peak
-    pub records : sweptUp (inJournal l) .state .records ≡ swept (sheetOf (l .list)) (rowsIn (l .rows)) (recordsIn (inJournal l .journal)) anyRows anyRecords .state .records
-    pub holds : HoldsRecords (recordsIn (inJournal l .journal)) (sweptUp (inJournal l) .state .records) (sweptUp (inJournal l) .state .journal) (swept (sheetOf (l .list)) (rowsIn (l .rows)) (recordsIn (inJournal l .journal)) anyRows anyRecords .state .journal)
+    pub end : sweptUp (inJournal l) .state .end ≡ swept (drawingOf (l .list)) (rowsIn (l .rows)) (recordsIn (inJournal l .journal)) anyRows anyRecords .state .end
+    pub peak : sweptUp (inJournal l) .state .peak ≡ swept (drawingOf (l .list)) (rowsIn (l .rows)) (recordsIn (inJournal l .journal)) anyRows anyRecords .state .peak
+    pub records : sweptUp (inJournal l) .state .records ≡ swept (drawingOf (l .list)) (rowsIn (l .rows)) (recordsIn (inJournal l .journal)) anyRows anyRecords .state .records
+    pub holds : HoldsRecords (recordsIn (inJournal l .journal)) (sweptUp (inJournal l) .state .records) (sweptUp (inJournal l) .state .journal) (swept (drawingOf (l .list)) (rowsIn (l .rows)) (recordsIn (inJournal l .journal)) anyRows anyRecords .state .journal)
     pub kept : sweptUp (inJournal l) .state .records ≤ recordsIn (inJournal l .journal)
 
   pub runs-as : RunsAs
@@ -171,8 +171,8 @@ module _ (l : Lent) (ok : checked (callOf l) ≡ Passed) where
   pub lists-long : (done : sweptUp (inJournal l) .state .end ≡ Done) → (length (readDown (inJournal l) (sweptUp (inJournal l)) .answers .polygons) ≡ edgesIn (l .list)) × (length (readDown (inJournal l) (sweptUp (inJournal l)) .answers .sequences) ≡ edgesIn (l .list))
   lists-long done = same-read done .answers .long
 
-  pub enough-room : 2 * sheetOf (l .list) .edges ≤ recordsIn (inJournal l .journal)
+  pub enough-room : 2 * drawingOf (l .list) .edges ≤ recordsIn (inJournal l .journal)
   enough-room = enough-records
 
-  pub few-edges : sheetOf (l .list) .edges ≤ 4096
+  pub few-edges : drawingOf (l .list) .edges ≤ 4096
   few-edges = few

@@ -15,7 +15,7 @@ use Rattle.sheet.specs.declared.Refusal.{Refusal}
 use Rattle.sheet.specs.Points as points
 use Rattle.sheet.specs.Rank as ranks
 use Rattle.sheet.specs.Edges as edges
-use Rattle.sheet.specs.Edges.{sheetOf, topHeight}
+use Rattle.sheet.specs.Edges.{drawingOf, topHeight}
 use Rattle.sheet.specs.Passing as passings
 use Rattle.sheet.specs.Passing.{passing, Most}
 use Rattle.sheet.specs.Kinds as kinds
@@ -33,7 +33,7 @@ use Rattle.numbering.specs.Outcome.{Lent, Left, outcome}
 use Rattle.numbering.specs.Promised.{Promised}
 
 -- a sheet with the rows lent, and what 01 says of it: refusal and place, or 0, 0; polygons, peak, records; the two lists
-record Sheet : Type 0 where
+record Expected : Type 0 where
   list : List ℕ
   rows : ℕ
   refusal : ℕ
@@ -44,7 +44,7 @@ record Sheet : Type 0 where
   polygon : List ℕ
   sequence : List ℕ
 
-abbrev lentFor : Sheet → Lent
+abbrev lentFor : Expected → Lent
 lentFor w =
     record {
       list = map pos (w .list);
@@ -60,39 +60,39 @@ sameList [] (b ∷ l) = false
 sameList (a ∷ k) [] = false
 sameList (a ∷ k) (b ∷ l) = eqb a b && sameList k l
 
-abbrev sameAnswer : Answer → Sheet → Bool
+abbrev sameAnswer : Answer → Expected → Bool
 sameAnswer (Accepted p k m) w = eqb (w .refusal) 0 && (eqb p (w .polygons) && (eqb k (w .peak) && eqb m (w .records)))
 sameAnswer (Refused r) w = eqb (numberOf r) (w .refusal) && eqb (placeOf r) (w .place)
 
-right : Sheet → Bool
+right : Expected → Bool
 right w = by (outcome (lentFor w))
   where
     by : Left → Bool
     by x = sameAnswer (x .answer) w && (sameList (x .polygons) (w .polygon) && sameList (x .sequences) (w .sequence))
 
-allRight : List Sheet → Bool
+allRight : List Expected → Bool
 allRight [] = true
 allRight (w ∷ rest) = right w && allRight rest
 
-accepted : List ℕ → ℕ → ℕ → ℕ → ℕ → List ℕ → List ℕ → Sheet
+accepted : List ℕ → ℕ → ℕ → ℕ → ℕ → List ℕ → List ℕ → Expected
 accepted list rows polygons peak records polygon sequence =
     record { list = list; rows = rows; refusal = 0; place = 0; polygons = polygons; peak = peak; records = records; polygon = polygon; sequence = sequence }
 
-refused : List ℕ → ℕ → ℕ → ℕ → List ℕ → Sheet
+refused : List ℕ → ℕ → ℕ → ℕ → List ℕ → Expected
 refused list rows number place untouched =
     record { list = list; rows = rows; refusal = number; place = place; polygons = 0; peak = 0; records = 0; polygon = untouched; sequence = untouched }
 
-empty : Sheet
+empty : Expected
 empty = accepted [] 0 0 0 0 [] []
 
-one-triangle : Sheet
+one-triangle : Expected
 one-triangle = accepted triangle 1 1 1 4 (1 ∷ 1 ∷ 1 ∷ []) (1 ∷ 2 ∷ 0 ∷ [])
 
-two-touching : Sheet
+two-touching : Expected
 two-touching =
     accepted touching 4 2 4 11 (2 ∷ 2 ∷ 1 ∷ 2 ∷ 2 ∷ 1 ∷ 1 ∷ []) (1 ∷ 2 ∷ 1 ∷ 3 ∷ 0 ∷ 2 ∷ 0 ∷ [])
 
-sheets : List Sheet
+sheets : List Expected
 sheets =
     empty
     ∷ one-triangle
@@ -108,7 +108,7 @@ sheets =
 
 -- the top of the triangle's first edge
 trianglePlace : ℕ
-trianglePlace = topHeight (sheetOf (lentFor one-triangle .list)) 0
+trianglePlace = topHeight (drawingOf (lentFor one-triangle .list)) 0
 
 -- all of the table, and of three sheets what the refutations below need
 record AllWorked : Type 0 where
@@ -119,7 +119,7 @@ record AllWorked : Type 0 where
   untouched-triangle : lentFor one-triangle .polygons ≡ 77 ∷ 77 ∷ 77 ∷ []
   lists-of-touching : outcome (lentFor two-touching) .polygons ≡ 2 ∷ 2 ∷ 1 ∷ 2 ∷ 2 ∷ 1 ∷ 1 ∷ []
   of-touching : outcome (lentFor two-touching) .answer ≡ Accepted 2 4 11
-  passing-triangle : passing (sheetOf (lentFor one-triangle .list)) trianglePlace ≡ 2
+  passing-triangle : passing (drawingOf (lentFor one-triangle .list)) trianglePlace ≡ 2
 
 all-worked : AllWorked
 unfolding
@@ -148,7 +148,7 @@ unfolding
     ranks.rank
     edges.edgeAt
     edges.edgesIn
-    edges.sheetOf
+    edges.drawingOf
     kinds.comes
     kinds.numberAt
     answers.notWhole
@@ -195,13 +195,13 @@ unfolding
     rows.movedIn
     rows.finishedIn
     rows.freedIn
-    rows.slices
+    rows.rowSlice
     journal.naturalPart
     journal.chainIn
     journal.rowNumber
-    journal.readRecord
+    journal.recordAt
     journal.writtenIn
-    journal.slices
+    journal.recordSlice
     slices.room
     lookup.narrowed
     lookup.numbersIn
@@ -263,8 +263,8 @@ module _ (engine : Lent → Left) (keeps : (l : Lent) → Promised l (engine l))
       omega arith
 
   -- one that gives C for the peak: two edges pass the triangle's places, and it needs one row
-  C-for-the-peak : ((l : Lent) (p j m : ℕ) → engine l .answer ≡ Accepted p j m → Most (passing (sheetOf (l .list))) j) → ⊥
+  C-for-the-peak : ((l : Lent) (p j m : ℕ) → engine l .answer ≡ Accepted p j m → Most (passing (drawingOf (l .list))) j) → ⊥
   C-for-the-peak f =
       let most = f (lentFor one-triangle) 1 1 4 (ap (λ x. x .answer) (keeps (lentFor one-triangle) .outcome-is) ∙ all-worked .of-triangle) in
-      let a : passing (sheetOf (lentFor one-triangle .list)) trianglePlace ≤ 1 = most .bound trianglePlace in
+      let a : passing (drawingOf (lentFor one-triangle .list)) trianglePlace ≤ 1 = most .bound trianglePlace in
       omega (arith, a, all-worked .passing-triangle)

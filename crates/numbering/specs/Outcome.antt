@@ -10,13 +10,13 @@ use Rattle.sheet.specs.declared.Check.the-variants as check
 use Rattle.sheet.specs.declared.Refusal.{Refusal}
 use Rattle.sheet.specs.declared.Refusal.the-variants.{NoRow}
 use Rattle.sheet.specs.Edges.{edgeAt, edgesIn}
-use Rattle.sheet.specs.Answers.{Call, checked, zeros, leftBy, followedByZeros}
+use Rattle.sheet.specs.Answers.{Call, checked, zeros, afterRefusal, followedByZeros}
 use Rattle.steps.specs.declared.End.{End}
 use Rattle.steps.specs.declared.End.the-variants.{Done, NoFreeRow, Overrun}
 use Rattle.steps.specs.SweepUp.{Sweep, sweepUp, listEdge, start}
 use Rattle.steps.specs.SweepDown.{Reading, sweepDown}
-use Rattle.journal.specs.Layout.{slices}
-use Rattle.sweep.specs.Slices.{roomOf}
+use Rattle.journal.specs.Layout.{recordSlice}
+use Rattle.sweep.specs.Slices.{lentRoom}
 use Rattle.sweep.specs.Lookup.{Answers, tables, reading}
 
 -- the five slices as they are lent
@@ -40,15 +40,15 @@ callOf l = record { list = l .list; polygons = length (l .polygons); sequences =
 
 unfoldable pub sweptUp : Lent → Sweep (List ℤ) (List ℤ)
 sweptUp l =
-    sweepUp (roomOf (l .rows) (l .journal)) (λ i. listEdge i (edgeAt (l .list) i .tail) (edgeAt (l .list) i .head)) (start (l .rows) (l .journal)) (edgesIn (l .list))
+    sweepUp (lentRoom (l .rows) (l .journal)) (λ i. listEdge i (edgeAt (l .list) i .tail) (edgeAt (l .list) i .head)) (start (l .rows) (l .journal)) (edgesIn (l .list))
 
 -- the records read down, with the rows' slice as look-up table
 unfoldable pub readDown : Lent → Sweep (List ℤ) (List ℤ) → Reading (List ℤ) Answers
-readDown l w = sweepDown tables slices (w .state .journal) (w .state .records) (reading (w .state .rows) (l .polygons) (l .sequences) 0)
+readDown l w = sweepDown tables recordSlice (w .state .journal) (w .state .records) (reading (w .state .rows) (l .polygons) (l .sequences) 0)
 
 -- a refusal leaves the two number lists, and journal and rows as the answer sheet says
 abbrev pub refused : Lent → Refusal → Left
-refused l r = record { answer = answer.Refused r; polygons = l .polygons; sequences = l .sequences; journal = leftBy r (l .journal); rows = leftBy r (l .rows) }
+refused l r = record { answer = answer.Refused r; polygons = l .polygons; sequences = l .sequences; journal = afterRefusal r (l .journal); rows = afterRefusal r (l .rows) }
 
 abbrev pub accepted : Lent → Sweep (List ℤ) (List ℤ) → Reading (List ℤ) Answers → Left
 accepted l w d =
@@ -88,5 +88,5 @@ outcome l = afterChecks l (checked (callOf l))
 abbrev pub lent : List ℤ → List ℕ → List ℕ → List ℤ → List ℤ → Lent
 lent list polygons sequences journal rows = record { list = list; polygons = polygons; sequences = sequences; journal = journal; rows = rows }
 
-abbrev pub left : Answer → List ℕ → List ℕ → List ℤ → List ℤ → Left
-left a polygons sequences journal rows = record { answer = a; polygons = polygons; sequences = sequences; journal = journal; rows = rows }
+abbrev pub leaving : Answer → List ℕ → List ℕ → List ℤ → List ℤ → Left
+leaving a polygons sequences journal rows = record { answer = a; polygons = polygons; sequences = sequences; journal = journal; rows = rows }

@@ -7,7 +7,7 @@ ghost use mathlib.Core.Path.{_≡_};
 ghost use Prim.Native.Nat.{_*_, _/_, _≤_};
 ghost use lib.ListN.{length};
 ghost use Rattle.sheet.specs.declared.Check.the-variants.{Passed};
-ghost use Rattle.numbering.specs.Outcome.{lent, left, sweeps, afterChecks};
+ghost use Rattle.numbering.specs.Outcome.{lent, leaving, sweeps, afterChecks};
 ghost use Rattle.numbering.specs.Promised.{Promised};
 
 // How many numbers of the journal an edge needs.
@@ -22,7 +22,7 @@ pub fn number(
     journal: &mut [i32],
     rows: &mut [i32],
 ) -> Answer
-    ensures { λ r. ⌜ Promised (lent (now (edges .entry)) (now (polygons .entry)) (now (sequences .entry)) (now (journal .entry)) (now (rows .entry))) (left r (now (polygons .exit)) (now (sequences .exit)) (now (journal .exit)) (now (rows .exit))) ⌝ }
+    ensures { λ r. ⌜ Promised (lent (now (edges .entry)) (now (polygons .entry)) (now (sequences .entry)) (now (journal .entry)) (now (rows .entry))) (leaving r (now (polygons .exit)) (now (sequences .exit)) (now (journal .exit)) (now (rows .exit))) ⌝ }
 {
     let checked = checks::check(edges, polygons.len(), sequences.len(), journal.len());
     match checked {
@@ -40,7 +40,7 @@ fn number_checked(
     rows: &mut [i32],
 ) -> Answer
     requires { ⌜ (length (now edges) / 4 ≤ 4096) × (8 * (length (now edges) / 4) ≤ length (now journal)) ⌝ }
-    ensures { λ r. ⌜ left r (now (polygons .exit)) (now (sequences .exit)) (now (journal .exit)) (now (rows .exit)) ≡ afterChecks (lent (now (edges .entry)) (now (polygons .entry)) (now (sequences .entry)) (now (journal .entry)) (now (rows .entry))) Passed ⌝ }
+    ensures { λ r. ⌜ leaving r (now (polygons .exit)) (now (sequences .exit)) (now (journal .exit)) (now (rows .exit)) ≡ afterChecks (lent (now (edges .entry)) (now (polygons .entry)) (now (sequences .entry)) (now (journal .entry)) (now (rows .entry))) Passed ⌝ }
 {
     let n = edges.len() / Edge::NUMBERS;
     let used = JOURNAL_NUMBERS * n;
@@ -58,7 +58,7 @@ fn sweep_both(
     rows: &mut [i32],
 ) -> Answer
     requires { ⌜ (length (now edges) / 4 ≤ 4096) × (length (now journal) ≡ 8 * (length (now edges) / 4)) ⌝ }
-    ensures { λ r. ⌜ left r (now (polygons .exit)) (now (sequences .exit)) (now (journal .exit)) (now (rows .exit)) ≡ sweeps (lent (now (edges .entry)) (now (polygons .entry)) (now (sequences .entry)) (now (journal .entry)) (now (rows .entry))) ⌝ }
+    ensures { λ r. ⌜ leaving r (now (polygons .exit)) (now (sequences .exit)) (now (journal .exit)) (now (rows .exit)) ≡ sweeps (lent (now (edges .entry)) (now (polygons .entry)) (now (sequences .entry)) (now (journal .entry)) (now (rows .entry))) ⌝ }
 {
     let n = edges.len() / Edge::NUMBERS;
     let swept = sweep::up::sweep_up(edges, n, journal, rows);

@@ -70,5 +70,5 @@ finishedIn s r side = set s (branchAt side r + 2) (negsuc (mag (getD s (branchAt
 unfoldable pub freedIn : List ℤ → ℕ → List ℤ
 freedIn s r = set s (8 * r) (freedNumber (getD s (8 * r) (pos 0)))
 
-unfoldable pub slices : Table Point (List ℤ)
-slices = record { look = lookRow; opened = openedIn; moved = movedIn; finished = finishedIn; freed = freedIn }
+unfoldable pub rowSlice : Table Point (List ℤ)
+rowSlice = record { look = lookRow; opened = openedIn; moved = movedIn; finished = finishedIn; freed = freedIn }

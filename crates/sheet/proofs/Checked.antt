@@ -7,12 +7,12 @@ use Prim.Native.Nat.{ℕ, _≤_, _<_}
 use native.Mathlib.Omega.{arith}
 use Rattle.laws.proofs.Deciding.{lt-or-le}
 use Rattle.laws.proofs.Pigeonhole.{reached}
-use Rattle.sheet.specs.Edges.{Sheet, SweepOrder}
+use Rattle.sheet.specs.Edges.{Drawing, SweepOrder}
 use Rattle.sheet.specs.Kinds.{Sound, below, above, arriving, leaving, comes}
 use Rattle.sheet.specs.Joining.{Follows}
 use Rattle.sheet.proofs.Following.{next-exists, next-unique, next-one-to-one}
 
-pub record Checked (sh : Sheet) : Type 0 where
+pub record Checked (sh : Drawing) : Type 0 where
   -- places of one film and one height are one place, and an edge stays on its film
   pub flat : (p q : ℕ) → sh .film p ≡ sh .film q → sh .height p ≡ sh .height q → p ≡ q
   pub one-film : (e : ℕ) → e < sh .edges → sh .film (sh .tail e) ≡ sh .film (sh .head e)
@@ -23,7 +23,7 @@ pub record Checked (sh : Sheet) : Type 0 where
   pub parted : (e : ℕ) → e < sh .edges → sh .apart (sh .head e) ≡ true → comes sh arriving e ≡ below → (f : ℕ) × (f < sh .edges) × (sh .tail f ≡ sh .head e) × (comes sh leaving f ≡ above)
 
 -- the joins of a list as functions
-pub record Joins (sh : Sheet) : Type 0 where
+pub record Joins (sh : Drawing) : Type 0 where
   pub next : ℕ → ℕ
   pub prev : ℕ → ℕ
   pub follows : (e : ℕ) → e < sh .edges → Follows sh e (next e)
@@ -31,7 +31,7 @@ pub record Joins (sh : Sheet) : Type 0 where
   pub one-to-one : (e f : ℕ) → e < sh .edges → f < sh .edges → next e ≡ next f → e ≡ f
   pub before : (e : ℕ) → e < sh .edges → (prev e < sh .edges) × (next (prev e) ≡ e)
 
-module _ {sh : Sheet} (S : Sound sh) where
+module _ {sh : Drawing} (S : Sound sh) where
   -- past the list the functions have no meaning and give 0
   pick-next : (e : ℕ) → (e < sh .edges) ⊎ (sh .edges ≤ e) → ℕ
   pick-next e (inl l) = next-exists S e l .0

@@ -9,7 +9,7 @@ use native.Mathlib.Omega.{arith}
 use borrow.Author.Tests.{eq-eqb, eqb-true}
 use Rattle.laws.proofs.Deciding.{lt-or-le, eq-or-ne}
 use Rattle.laws.proofs.Counting.{count-some, count-two, count-find, count-other}
-use Rattle.sheet.specs.Edges.{Sheet}
+use Rattle.sheet.specs.Edges.{Drawing}
 use Rattle.sheet.specs.Kinds.{Way, arriving, leaving, From, below, above, endOf, comes, numberAt, Sound}
 use Rattle.sheet.specs.Joining.{goesOn, Follows}
 
@@ -37,7 +37,7 @@ goes-on-inj true above below e = cc
 goes-on-inj a above above e = refl
 
 -- edges at a place, and how many they are
-module _ (sh : Sheet) (w : Way) (p : ℕ) where
+module _ (sh : Drawing) (w : Way) (p : ℕ) where
   one-there : (e : ℕ) → e < sh .edges → endOf sh w e ≡ p → 1 ≤ numberAt sh w p
   unfolding numberAt
   one-there e l h = count-some _ (sh .edges) e l (eq-eqb _ _ h)
@@ -54,7 +54,7 @@ module _ (sh : Sheet) (w : Way) (p : ℕ) where
   unfolding numberAt
   there-other e l h k = let v = count-other _ (sh .edges) e l (eq-eqb _ _ h) k in (v .0, v .1, v .2, eqb-true _ _ (v .3))
 
-module _ {sh : Sheet} (S : Sound sh) where
+module _ {sh : Drawing} (S : Sound sh) where
   -- two edges that leave one place come from its two sides
   sides-differ : (e f : ℕ) → e < sh .edges → f < sh .edges → sh .tail f ≡ sh .tail e → (f ≡ e → ⊥) → comes sh leaving f ≡ comes sh leaving e → ⊥
   sides-differ e f el fl h d k = d (S .single leaving f e fl el h k)
@@ -129,5 +129,5 @@ module _ {sh : Sheet} (S : Sound sh) where
           d (S .single arriving e f (a .is-edge) (b .is-edge) (sym meet) s)
 
 -- 01 Points 5.2, where all four kinds meet: of an arriving and a leaving edge on one side the second follows the first
-pub own-side-joins : (sh : Sheet) (e f : ℕ) → e < sh .edges → f < sh .edges → sh .apart (sh .head e) ≡ false → sh .tail f ≡ sh .head e → comes sh leaving f ≡ comes sh arriving e → Follows sh e f
+pub own-side-joins : (sh : Drawing) (e f : ℕ) → e < sh .edges → f < sh .edges → sh .apart (sh .head e) ≡ false → sh .tail f ≡ sh .head e → comes sh leaving f ≡ comes sh arriving e → Follows sh e f
 own-side-joins sh e f el fl a m s = record { is-edge = el; next-is-edge = fl; meet = m; rule = inl (rw a s) }

@@ -6,14 +6,14 @@ use mathlib.Core.Logic.{_⊎_, ⊎-elim}
 use Prim.Native.Nat.{ℕ, zero, suc, _≤_, _<_}
 use native.Mathlib.Omega.{arith}
 use Rattle.laws.proofs.Deciding.{lt-or-le, eq-or-ne}
-use Rattle.sheet.specs.Edges.{Sheet}
+use Rattle.sheet.specs.Edges.{Drawing}
 use Rattle.sheet.specs.Kinds.{leaving}
 use Rattle.sheet.specs.Joining.{Follows}
 use Rattle.sheet.specs.Numbering.{Numbering}
 use Rattle.sheet.proofs.Checked.{Checked, joins}
 use Rattle.sheet.proofs.Leads.{step-back, before-follows, lead, lead-is, lead-keeps, lead-from-below}
 
-module _ {sh : Sheet} (K : Checked sh) {polygon sequence polygon′ sequence′ : ℕ → ℕ} {polygons polygons′ : ℕ} (A : Numbering sh polygon sequence polygons) (B : Numbering sh polygon′ sequence′ polygons′) where
+module _ {sh : Drawing} (K : Checked sh) {polygon sequence polygon′ sequence′ : ℕ → ℕ} {polygons polygons′ : ℕ} (A : Numbering sh polygon sequence polygons) (B : Numbering sh polygon′ sequence′ polygons′) where
   film-kept : (e f : ℕ) → Follows sh e f → sh .film (sh .tail f) ≡ sh .film (sh .tail e)
   film-kept e f a = ap (sh .film) (a .meet) ∙ sym (K .one-film e (a .is-edge))
 
@@ -28,7 +28,7 @@ module _ {sh : Sheet} (K : Checked sh) {polygon sequence polygon′ sequence′ 
       let q : d ≡ e = K .sound .single leaving d e (b .0) l t (lead-from-below K B d (b .0) (b .2) ∙ sym (lead-from-below K A e l z)) in
       ap sequence′ (sym q) ∙ b .2
 
-module _ {sh : Sheet} (K : Checked sh) {polygon sequence polygon′ sequence′ : ℕ → ℕ} {polygons polygons′ : ℕ} (A : Numbering sh polygon sequence polygons) (B : Numbering sh polygon′ sequence′ polygons′) where
+module _ {sh : Drawing} (K : Checked sh) {polygon sequence polygon′ sequence′ : ℕ → ℕ} {polygons polygons′ : ℕ} (A : Numbering sh polygon sequence polygons) (B : Numbering sh polygon′ sequence′ polygons′) where
   sequence-steps : (k e : ℕ) → e < sh .edges → sequence e ≡ k → sequence′ e ≡ k
   sequence-steps zero e l q = zero-too K A B e l q
   sequence-steps (suc k) e l q =
@@ -59,7 +59,7 @@ module _ {sh : Sheet} (K : Checked sh) {polygon sequence polygon′ sequence′ 
           let nl : polygon′ e < polygon′ f → ⊥ = λ u. omega (arith, m, B .highest-first e f l (w .0) x y u) in
           omega (arith, i, ne, nl)
 
-module _ {sh : Sheet} (K : Checked sh) {polygon sequence polygon′ sequence′ : ℕ → ℕ} {polygons polygons′ : ℕ} (A : Numbering sh polygon sequence polygons) (B : Numbering sh polygon′ sequence′ polygons′) where
+module _ {sh : Drawing} (K : Checked sh) {polygon sequence polygon′ sequence′ : ℕ → ℕ} {polygons polygons′ : ℕ} (A : Numbering sh polygon sequence polygons) (B : Numbering sh polygon′ sequence′ polygons′) where
   pub same-polygon : (e : ℕ) → e < sh .edges → polygon′ e ≡ polygon e
   same-polygon e l =
       let d = lead K A (sequence e) e l refl in
@@ -78,5 +78,5 @@ module _ {sh : Sheet} (K : Checked sh) {polygon sequence polygon′ sequence′ 
           let v = A .no-gap polygons (omega arith) (omega arith) in
           omega (arith, h, v .2, same-polygon (v .0) (v .1), B .from-one (v .0) (v .1))
 
-pub same-polygons : {sh : Sheet} (K : Checked sh) {polygon sequence polygon′ sequence′ : ℕ → ℕ} {polygons polygons′ : ℕ} → Numbering sh polygon sequence polygons → Numbering sh polygon′ sequence′ polygons′ → polygons′ ≡ polygons
+pub same-polygons : {sh : Drawing} (K : Checked sh) {polygon sequence polygon′ sequence′ : ℕ → ℕ} {polygons polygons′ : ℕ} → Numbering sh polygon sequence polygons → Numbering sh polygon′ sequence′ polygons′ → polygons′ ≡ polygons
 same-polygons K A B = omega (arith, no-more K A B, no-more K B A)

@@ -8,17 +8,17 @@ use Prim.Native.Nat.{ℕ, zero, suc, _+_, _-_, _≤_, _<_}
 use native.Mathlib.Omega.{arith}
 use Rattle.laws.proofs.Counting.{count-all}
 use Rattle.laws.proofs.Pigeonhole.{pigeon}
-use Rattle.sheet.specs.Edges.{Sheet}
+use Rattle.sheet.specs.Edges.{Drawing}
 use Rattle.sheet.specs.Joining.{Follows, InOutline, itself, onwards}
 use Rattle.sheet.specs.Numbering.{Numbering}
 use Rattle.sheet.proofs.Checked.{Checked, joins}
 use Rattle.sheet.proofs.Leads.{step-back, lead, lead-is, lead-outline}
 
-outline-trans : {sh : Sheet} {e f g : ℕ} → InOutline sh e f → InOutline sh f g → InOutline sh e g
+outline-trans : {sh : Drawing} {e f g : ℕ} → InOutline sh e f → InOutline sh f g → InOutline sh e g
 outline-trans o itself = o
 outline-trans o (onwards p a) = onwards (outline-trans o p) a
 
-module _ {sh : Sheet} (K : Checked sh) {polygon sequence : ℕ → ℕ} {polygons : ℕ} (A : Numbering sh polygon sequence polygons) where
+module _ {sh : Drawing} (K : Checked sh) {polygon sequence : ℕ → ℕ} {polygons : ℕ} (A : Numbering sh polygon sequence polygons) where
   pub outline-shares : (e f : ℕ) → InOutline sh e f → polygon f ≡ polygon e
   outline-shares e f itself = refl
   outline-shares e f (onwards o a) = A .shared _ _ a ∙ outline-shares e _ o

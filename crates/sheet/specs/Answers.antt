@@ -24,7 +24,7 @@ use Rattle.sheet.specs.declared.Check.the-variants as check
 use Rattle.sheet.specs.declared.Answer.{Answer}
 use Rattle.sheet.specs.declared.Answer.the-variants as answer
 use Rattle.sheet.specs.Points.{inRange, isSame, isBelow, topOf}
-use Rattle.sheet.specs.Edges.{Sheet, edgeAt, edgesIn, sheetOf}
+use Rattle.sheet.specs.Edges.{Drawing, edgeAt, edgesIn, drawingOf}
 use Rattle.sheet.specs.Kinds.{Way, arriving, leaving, From, below, above, endOf, comes, numberAt}
 
 -- What the checks see of a call: the edge list, and how many numbers long the two number lists and the journal are.
@@ -103,18 +103,18 @@ sameFrom above below = false
 sameFrom above above = true
 
 -- edges e and f are of one kind at one place
-unfoldable pub sameKind : Sheet → Way → ℕ → ℕ → Bool
+unfoldable pub sameKind : Drawing → Way → ℕ → ℕ → Bool
 sameKind sh w e f = eqb (endOf sh w e) (endOf sh w f) && sameFrom (comes sh w e) (comes sh w f)
 
 -- 8: an earlier edge is of the same kind at the same place
-unfoldable pub repeats : Sheet → ℕ → Bool
+unfoldable pub repeats : Drawing → ℕ → Bool
 repeats sh e = some-below (λ f. sameKind sh arriving e f || sameKind sh leaving e f) e
 
 -- 9: a place where the arriving and the leaving edges differ in number, and an edge with an end there
-unfoldable pub differ : Sheet → ℕ → Bool
+unfoldable pub differ : Drawing → ℕ → Bool
 differ sh p = not (eqb (numberAt sh arriving p) (numberAt sh leaving p))
 
-unfoldable pub uneven : Sheet → ℕ → Bool
+unfoldable pub uneven : Drawing → ℕ → Bool
 uneven sh e = differ sh (sh .tail e) || differ sh (sh .head e)
 
 -- the refusal where the test holds, otherwise what is tried next
@@ -134,17 +134,17 @@ checked c =
     (refuseIf (listsDiffer c) ListsDiffer
     (refuseIf (journalShort c) JournalShort
     (refuseFirst (edgeFault (c .list)) (edgesIn (c .list)) (faultOf (c .list))
-    (refuseFirst (repeats (sheetOf (c .list))) (edgesIn (c .list)) Repeated
-    (refuseFirst (uneven (sheetOf (c .list))) (edgesIn (c .list)) Uneven
+    (refuseFirst (repeats (drawingOf (c .list))) (edgesIn (c .list)) Repeated
+    (refuseFirst (uneven (drawingOf (c .list))) (edgesIn (c .list)) Uneven
     check.Passed))))))
 
 -- What the steps end with: the numbers returned, or the level-0 edge that was treated when step 1 found no free row.
-pub data Sweep : Type 0 where
-  finished : (polygons peak records : ℕ) → Sweep
-  noFreeRow : (edge : ℕ) → Sweep
+pub data Ending : Type 0 where
+  finished : (polygons peak records : ℕ) → Ending
+  noFreeRow : (edge : ℕ) → Ending
 
 -- 10: the steps found no free row; tried last
-abbrev pub answered : Check → Sweep → Answer
+abbrev pub answered : Check → Ending → Answer
 answered (check.Refused r) sweep = answer.Refused r
 answered check.Passed (noFreeRow e) = answer.Refused (NoRow e)
 answered check.Passed (finished polygons peak records) = answer.Accepted polygons peak records
@@ -153,8 +153,8 @@ abbrev pub zeros : List ℤ → List ℤ
 zeros l = replicate (length l) (pos 0)
 
 -- column 4, for the journal and for the rows: zeros after 10, what stood there before after any other
-abbrev pub leftBy : Refusal → List ℤ → List ℤ
-leftBy r l = cond (eqb (numberOf r) 10) (zeros l) l
+abbrev pub afterRefusal : Refusal → List ℤ → List ℤ
+afterRefusal r l = cond (eqb (numberOf r) 10) (zeros l) l
 
 -- accepted: the numbers of the records, then zeros to the journal's end
 abbrev pub followedByZeros : List ℤ → ℕ → List ℤ

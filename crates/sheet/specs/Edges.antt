@@ -20,7 +20,7 @@ edgesIn s = length s / 4
 
 -- A list of edges: how many there are, and the places of each one's tail and head. Below, above and highest go by the height of places; edges meet
 -- where places are equal. A place has a film, and where it is apart its two lower edges do not join each other.
-pub record Sheet : Type 0 where
+pub record Drawing : Type 0 where
   pub edges : ℕ
   pub tail : ℕ → ℕ
   pub head : ℕ → ℕ
@@ -29,8 +29,8 @@ pub record Sheet : Type 0 where
   pub apart : ℕ → Bool
 
 -- In document 01 a place is a point, by its rank, which is its height too; there is one film, and no place is apart.
-unfoldable pub sheetOf : List ℤ → Sheet
-sheetOf s =
+unfoldable pub drawingOf : List ℤ → Drawing
+drawingOf s =
     record {
       edges = edgesIn s;
       tail = λ e. rank (edgeAt s e .tail);
@@ -41,12 +41,12 @@ sheetOf s =
     }
 
 -- how high an edge's top and bottom lie
-abbrev pub topHeight : Sheet → ℕ → ℕ
+abbrev pub topHeight : Drawing → ℕ → ℕ
 topHeight sh e = max (sh .height (sh .tail e)) (sh .height (sh .head e))
 
-abbrev pub bottomHeight : Sheet → ℕ → ℕ
+abbrev pub bottomHeight : Drawing → ℕ → ℕ
 bottomHeight sh e = min (sh .height (sh .tail e)) (sh .height (sh .head e))
 
 -- 01 Points 3.3: along the list the tops never fall
-abbrev pub SweepOrder : Sheet → Type 0
+abbrev pub SweepOrder : Drawing → Type 0
 SweepOrder sh = (e : ℕ) → e + 1 < sh .edges → topHeight sh e ≤ topHeight sh (e + 1)

@@ -4,7 +4,7 @@ use mathlib.Core.Path.{_≡_}
 use mathlib.Core.Bool.{Bool, true, false}
 use lib.Dec.{eqb, ltb}
 use Rattle.laws.specs.Counting.{count}
-use Rattle.sheet.specs.Edges.{Sheet}
+use Rattle.sheet.specs.Edges.{Drawing}
 
 -- 01 Points 4.1: at a place an edge arrives, with its head, or leaves, with its tail ..
 pub data Way : Type 0 where
@@ -21,7 +21,7 @@ otherWay arriving = leaving
 otherWay leaving = arriving
 
 -- where an edge arrives, and where it leaves
-abbrev pub endOf : Sheet → Way → ℕ → ℕ
+abbrev pub endOf : Drawing → Way → ℕ → ℕ
 endOf sh arriving e = sh .head e
 endOf sh leaving e = sh .tail e
 
@@ -30,14 +30,14 @@ fromTest true = below
 fromTest false = above
 
 -- it comes from below to the place where its other end is lower
-unfoldable pub comes : Sheet → Way → ℕ → From
+unfoldable pub comes : Drawing → Way → ℕ → From
 comes sh w e = fromTest (ltb (sh .height (endOf sh (otherWay w) e)) (sh .height (endOf sh w e)))
 
 -- how many edges arrive at a place, or leave it
-unfoldable pub numberAt : Sheet → Way → ℕ → ℕ
+unfoldable pub numberAt : Drawing → Way → ℕ → ℕ
 numberAt sh w p = count (λ e. eqb (endOf sh w e) p) (sh .edges)
 
 -- 01 Points 4.3: no two edges of one kind at one place, and at each place the arriving edges are as many as the leaving ones
-pub record Sound (sh : Sheet) : Type 0 where
+pub record Sound (sh : Drawing) : Type 0 where
   pub single : (w : Way) (e f : ℕ) → e < sh .edges → f < sh .edges → endOf sh w e ≡ endOf sh w f → comes sh w e ≡ comes sh w f → e ≡ f
   pub even : (p : ℕ) → numberAt sh arriving p ≡ numberAt sh leaving p

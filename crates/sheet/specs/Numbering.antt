@@ -2,10 +2,10 @@
 use Prim.Native.Nat.{ℕ, suc, _≤_, _<_}
 use mathlib.Core.Path.{_≡_}
 use mathlib.Core.Logic.{_⊎_}
-use Rattle.sheet.specs.Edges.{Sheet}
+use Rattle.sheet.specs.Edges.{Drawing}
 use Rattle.sheet.specs.Joining.{Follows}
 
-pub record Numbering (sh : Sheet) (polygon sequence : ℕ → ℕ) (polygons : ℕ) : Type 0 where
+pub record Numbering (sh : Drawing) (polygon sequence : ℕ → ℕ) (polygons : ℕ) : Type 0 where
   -- 01 Points 6.2: the numbers run from 1 to the number of polygons, and each is some edge's
   pub from-one : (e : ℕ) → e < sh .edges → (1 ≤ polygon e) × (polygon e ≤ polygons)
   pub no-gap : (k : ℕ) → 1 ≤ k → k ≤ polygons → (e : ℕ) × (e < sh .edges) × (polygon e ≡ k)

@@ -25,24 +25,24 @@ turnPlaceOf (PairRepeated e) = e
 turnPlaceOf (Gap e) = e
 
 -- A numbering that is read: the polygon and the sequence number of each edge, and how many edges there are.
-pub record Numbers : Type 0 where
+pub record NumberLists : Type 0 where
   pub polygon : ℕ → ℕ
   pub sequence : ℕ → ℕ
   pub edges : ℕ
 
-unfoldable pub numbersOf : List ℕ → List ℕ → Numbers
-numbersOf polygons sequences = record { polygon = λ e. getD polygons e 0; sequence = λ e. getD sequences e 0; edges = length polygons }
+unfoldable pub numberLists : List ℕ → List ℕ → NumberLists
+numberLists polygons sequences = record { polygon = λ e. getD polygons e 0; sequence = λ e. getD sequences e 0; edges = length polygons }
 
 -- 12: a polygon number is 0
-unfoldable pub noPolygon : Numbers → ℕ → Bool
+unfoldable pub noPolygon : NumberLists → ℕ → Bool
 noPolygon v e = eqb (v .polygon e) 0
 
 -- 13: an earlier edge has the same polygon and sequence number
-unfoldable pub pairRepeated : Numbers → ℕ → Bool
+unfoldable pub pairRepeated : NumberLists → ℕ → Bool
 pairRepeated v e = some-below (λ f. eqb (v .polygon f) (v .polygon e) && eqb (v .sequence f) (v .sequence e)) e
 
 -- 14: the sequence number before is missing in the polygon, or the polygon before is missing
-unfoldable pub gap : Numbers → ℕ → Bool
+unfoldable pub gap : NumberLists → ℕ → Bool
 gap v e =
     (ltb 0 (v .sequence e) && not (some-below (λ f. eqb (v .polygon f) (v .polygon e) && eqb (v .sequence f + 1) (v .sequence e)) (v .edges)))
     || (ltb 1 (v .polygon e) && not (some-below (λ f. eqb (v .polygon f + 1) (v .polygon e)) (v .edges)))
@@ -51,7 +51,7 @@ abbrev pub refuseTurn : Bool → TurnRefusal → TurnAnswer → TurnAnswer
 refuseTurn true r rest = answer.Refused r
 refuseTurn false r rest = rest
 
-abbrev pub refuseFirstTurn : Numbers → (Numbers → ℕ → Bool) → (ℕ → TurnRefusal) → TurnAnswer → TurnAnswer
+abbrev pub refuseFirstTurn : NumberLists → (NumberLists → ℕ → Bool) → (ℕ → TurnRefusal) → TurnAnswer → TurnAnswer
 refuseFirstTurn v test refusal rest = refuseTurn (ltb (first (test v) (v .edges)) (v .edges)) (refusal (first (test v) (v .edges))) rest
 
 -- 11: not three lengths that are equal and at most 4,096
@@ -62,17 +62,17 @@ lengthsDiffer polygons sequences turns = not (eqb polygons sequences && eqb poly
 unfoldable pub turned : List ℕ → List ℕ → ℕ → TurnAnswer
 turned polygons sequences turns =
     refuseTurn (lengthsDiffer (length polygons) (length sequences) turns) LengthsDiffer
-    (refuseFirstTurn (numbersOf polygons sequences) noPolygon NoPolygon
-    (refuseFirstTurn (numbersOf polygons sequences) pairRepeated PairRepeated
-    (refuseFirstTurn (numbersOf polygons sequences) gap Gap
+    (refuseFirstTurn (numberLists polygons sequences) noPolygon NoPolygon
+    (refuseFirstTurn (numberLists polygons sequences) pairRepeated PairRepeated
+    (refuseFirstTurn (numberLists polygons sequences) gap Gap
     (answer.Accepted (largest (λ e. getD polygons e 0) (length polygons))))))
 
 -- one edge comes before another: by polygon, and in a polygon by sequence
-abbrev pub Before : Numbers → ℕ → ℕ → Type 0
+abbrev pub Before : NumberLists → ℕ → ℕ → Type 0
 Before v e f = (v .polygon e < v .polygon f) ⊎ ((v .polygon e ≡ v .polygon f) × (v .sequence e < v .sequence f))
 
 -- the places of all the edges in that order
-pub record TurnList (v : Numbers) (turns : List ℕ) : Type 0 where
+pub record TurnList (v : NumberLists) (turns : List ℕ) : Type 0 where
   pub size : length turns ≡ v .edges
   pub places : (i : ℕ) → i < v .edges → getD turns i 0 < v .edges
   pub in-order : (i j : ℕ) → i < j → j < v .edges → Before v (getD turns i 0) (getD turns j 0)
@@ -80,4 +80,4 @@ pub record TurnList (v : Numbers) (turns : List ℕ) : Type 0 where
 -- what stands in the turn list after the call: a refusal leaves what stood there
 abbrev pub TurnsAfter : List ℕ → List ℕ → TurnAnswer → List ℕ → List ℕ → Type 0
 TurnsAfter polygons sequences (answer.Refused r) before after = after ≡ before
-TurnsAfter polygons sequences (answer.Accepted n) before after = TurnList (numbersOf polygons sequences) after
+TurnsAfter polygons sequences (answer.Accepted n) before after = TurnList (numberLists polygons sequences) after

@@ -18,7 +18,7 @@ use Rattle.steps.specs.declared.Found.{Found}
 use Rattle.steps.specs.declared.Found.the-variants.{At, Nothing}
 use Rattle.steps.specs.declared.End.{End}
 use Rattle.steps.specs.declared.End.the-variants.{Done, NoFreeRow, Overrun}
-use Rattle.steps.specs.Rows.{otherSide, on, Branch, Row, Chain, inRow, closing, Record, Edge, Room}
+use Rattle.steps.specs.Rows.{otherSide, on, Branch, Row, Chain, inRow, closing, Record, LevelEdge, Room}
 use Rattle.steps.specs.SweepUp as up
 use Rattle.steps.specs.SweepUp.{State, Sweep, hasTip, asEdge, bottom, top, sideOf, sideTest, longer, chainRecord, foundBelow, mostLength}
 
@@ -42,7 +42,7 @@ module _ {P P′ : Type 0} (R : P → P′ → Type 0) where
     pub level : row .level ≡ row′ .level
     pub branch : (s : Side) → AlikeBranch (on s (row .branch)) (on s (row′ .branch))
 
-  pub record AlikeEdge (most : ℕ) (e : Edge P) (e′ : Edge P′) : Type 0 where
+  pub record AlikeEdge (most : ℕ) (e : LevelEdge P) (e′ : LevelEdge P′) : Type 0 where
     pub name : e .name ≡ e′ .name
     pub small : e .name ≤ most
     pub tail : R (e .tail) (e′ .tail)
@@ -182,7 +182,7 @@ module _ {P T J P′ T′ J′ : Type 0} {room : Room P T J} {room′ : Room P�
   open-records s r level p = refl
 
   -- steps 2 and 3
-  chain-record-alike : (level : ℕ) (side : Side) {row : Row P} {row′ : Row P′} {e : Edge P} {e′ : Edge P′} (r : ℕ) → AlikeRow R row row′ → AlikeEdge R most e e′ → up.chainRecord room level side row e r ≡ up.chainRecord room′ level side row′ e′ r
+  chain-record-alike : (level : ℕ) (side : Side) {row : Row P} {row′ : Row P′} {e : LevelEdge P} {e′ : LevelEdge P′} (r : ℕ) → AlikeRow R row row′ → AlikeEdge R most e e′ → up.chainRecord room level side row e r ≡ up.chainRecord room′ level side row′ e′ r
   chain-record-alike level side r a h = λ i.
       record {
         level = level;
@@ -191,14 +191,14 @@ module _ {P T J P′ T′ J′ : Type 0} {room : Room P T J} {room′ : Room P�
         offset = up.signed side (a .branch side .length i + on (otherSide side) (h .length i));
       }
 
-  longer-alike : (side : Side) {row : Row P} {row′ : Row P′} {e : Edge P} {e′ : Edge P′} → AlikeRow R row row′ → AlikeEdge R most e e′ → up.longer room side row e ≡ up.longer room′ side row′ e′
+  longer-alike : (side : Side) {row : Row P} {row′ : Row P′} {e : LevelEdge P} {e′ : LevelEdge P′} → AlikeRow R row row′ → AlikeEdge R most e e′ → up.longer room side row e ≡ up.longer room′ side row′ e′
   longer-alike side a h = λ i. a .branch side .length i + h .length i .falling + h .length i .rising
 
-  top-alike : (side : Side) {e : Edge P} {e′ : Edge P′} → AlikeEdge R most e e′ → R (top side e) (top side e′)
+  top-alike : (side : Side) {e : LevelEdge P} {e′ : LevelEdge P′} → AlikeEdge R most e e′ → R (top side e) (top side e′)
   top-alike Rising h = h .head
   top-alike Falling h = h .tail
 
-  bottom-alike : (side : Side) {e : Edge P} {e′ : Edge P′} → AlikeEdge R most e e′ → R (bottom side e) (bottom side e′)
+  bottom-alike : (side : Side) {e : LevelEdge P} {e′ : LevelEdge P′} → AlikeEdge R most e e′ → R (bottom side e) (bottom side e′)
   bottom-alike Rising h = h .tail
   bottom-alike Falling h = h .head
 
@@ -236,7 +236,7 @@ module _ {P T J P′ T′ J′ : Type 0} {room : Room P T J} {room′ : Room P�
   unfolding up.write
   write-peak s entry = refl
 
-  attach-alike : {k : ℕ} {s : State T J} {s′ : State T′ J′} → Alike 1 k s s′ → (level : ℕ) → level ≤ 12 → (side : Side) {e : Edge P} {e′ : Edge P′} → AlikeEdge R most e e′ → (r : ℕ) → r < s .peak → r ≤ s .records → Alike 0 k (up.attach room s level side e r) (up.attach room′ s′ level side e′ r)
+  attach-alike : {k : ℕ} {s : State T J} {s′ : State T′ J′} → Alike 1 k s s′ → (level : ℕ) → level ≤ 12 → (side : Side) {e : LevelEdge P} {e′ : LevelEdge P′} → AlikeEdge R most e e′ → (r : ℕ) → r < s .peak → r ≤ s .records → Alike 0 k (up.attach room s level side e r) (up.attach room′ s′ level side e′ r)
   unfolding up.attach
   attach-alike {k} {s} {s′} A level lv side {e} {e′} h r rl rr =
       let a = M .look (A .rows) r rl in
@@ -247,7 +247,7 @@ module _ {P T J P′ T′ J′ : Type 0} {room : Room P T J} {room′ : Room P�
       move-alike (write-alike A b l (record { level = lv; name = h .small; chain = omega (arith, rr, l, M .names) })) r side (top-alike side h) n (omega (arith, rl, write-peak s (up.chainRecord room level side (up.look room s r) e r))))
       (λ q. overrun A)
 
-  close-alike : {k : ℕ} {s : State T J} {s′ : State T′ J′} → Alike 0 k s s′ → (level : ℕ) → level ≤ 12 → {e : Edge P} {e′ : Edge P′} → AlikeEdge R most e e′ → Alike 0 k (up.close room s level e) (up.close room′ s′ level e′)
+  close-alike : {k : ℕ} {s : State T J} {s′ : State T′ J′} → Alike 0 k s s′ → (level : ℕ) → level ≤ 12 → {e : LevelEdge P} {e′ : LevelEdge P′} → AlikeEdge R most e e′ → Alike 0 k (up.close room s level e) (up.close room′ s′ level e′)
   unfolding up.close
   close-alike {k} {s} A level lv {e} h =
       pick-alike _ _ (λ i. ltb (A .records i) (M .records i))
@@ -255,7 +255,7 @@ module _ {P T J P′ T′ J′ : Type 0} {room : Room P T J} {room′ : Room P�
       (λ q. overrun A)
 
   -- step 4
-  meeting-alike : {k : ℕ} {s : State T J} {s′ : State T′ J′} → Alike 0 k s s′ → (level : ℕ) (side : Side) {e : Edge P} {e′ : Edge P′} → AlikeEdge R most e e′ → up.meeting room s level side e ≡ up.meeting room′ s′ level side e′
+  meeting-alike : {k : ℕ} {s : State T J} {s′ : State T′ J′} → Alike 0 k s s′ → (level : ℕ) (side : Side) {e : LevelEdge P} {e′ : LevelEdge P′} → AlikeEdge R most e e′ → up.meeting room s level side e ≡ up.meeting room′ s′ level side e′
   unfolding up.meeting
   meeting-alike A level side h = λ i. up.pickMeeting room (M .apart (top-alike side h) i) (find-alike A level (otherSide side) (top-alike side h) i)
 
@@ -284,7 +284,7 @@ module _ {P T J P′ T′ J′ : Type 0} {room : Room P T J} {room′ : Room P�
   unfolding up.find
   found-in-time s level side p q h = found-below _ (s .peak) q h
 
-  found-small : {k : ℕ} {s : State T J} {s′ : State T′ J′} → Alike 0 k s s′ → s .end ≡ Done → (level : ℕ) (side : Side) (e : Edge P) (q : ℕ) → up.meeting room s level side e ≡ At q → (q < s .peak) × (q ≤ most)
+  found-small : {k : ℕ} {s : State T J} {s′ : State T′ J′} → Alike 0 k s s′ → s .end ≡ Done → (level : ℕ) (side : Side) (e : LevelEdge P) (q : ℕ) → up.meeting room s level side e ≡ At q → (q < s .peak) × (q ≤ most)
   unfolding up.meeting up.find
   found-small {k} {s} A done level side e q h = by (room .places .apart (top side e)) h
     where
@@ -304,7 +304,7 @@ module _ {P T J P′ T′ J′ : Type 0} {room : Room P T J} {room′ : Room P�
       }
 
   -- the next level is treated alike
-  module _ (next : up.Treatment room) (next′ : up.Treatment room′) (alike : (k : ℕ) (s : State T J) (s′ : State T′ J′) (e : Edge P) (e′ : Edge P′) → Alike 0 k s s′ → s .end ≡ Done → AlikeEdge R most e e′ → Alike 0 k (next s e) (next′ s′ e′)) where
+  module _ (next : up.Treatment room) (next′ : up.Treatment room′) (alike : (k : ℕ) (s : State T J) (s′ : State T′ J′) (e : LevelEdge P) (e′ : LevelEdge P′) → Alike 0 k s s′ → s .end ≡ Done → AlikeEdge R most e e′ → Alike 0 k (next s e) (next′ s′ e′)) where
     pass-up-alike : {k : ℕ} {s : State T J} {s′ : State T′ J′} → Alike 0 k s s′ → s .end ≡ Done → (r : ℕ) → r < k → r ≤ most → Alike 0 k (up.passUp room next s r) (up.passUp room′ next′ s′ r)
     unfolding up.passUp
     pass-up-alike {k} {s} {s′} A done r l m =
@@ -327,7 +327,7 @@ module _ {P T J P′ T′ J′ : Type 0} {room : Room P T J} {room′ : Room P�
         pass-both-alike (finish-alike (finish-alike A q (otherSide side) (omega (arith, b .0, A .since))) r side (omega (arith, l, A .since))) done q r (b .0) (b .1) l m
 
     -- steps 2 to 4; attaching leaves no smaller peak
-    on-row-since : {s : State T J} {s′ : State T′ J′} → Alike 1 (s .peak) s s′ → (level : ℕ) → level ≤ 12 → (side : Side) {e : Edge P} {e′ : Edge P′} → AlikeEdge R most e e′ → (r : ℕ) → r < s .peak → r ≤ s .records → Alike 0 (up.attach room s level side e r .peak) (up.onRow room next s level side e r) (up.onRow room′ next′ s′ level side e′ r)
+    on-row-since : {s : State T J} {s′ : State T′ J′} → Alike 1 (s .peak) s s′ → (level : ℕ) → level ≤ 12 → (side : Side) {e : LevelEdge P} {e′ : LevelEdge P′} → AlikeEdge R most e e′ → (r : ℕ) → r < s .peak → r ≤ s .records → Alike 0 (up.attach room s level side e r .peak) (up.onRow room next s level side e r) (up.onRow room′ next′ s′ level side e′ r)
     unfolding up.onRow
     on-row-since {s} {s′} A level lv side {e} {e′} h r l m =
         let B = attach-alike A level lv side h r l m in
@@ -335,7 +335,7 @@ module _ {P T J P′ T′ J′ : Type 0} {room : Room P T J} {room′ : Room P�
         let C : Alike 0 (up.attach room s level side e r .peak) (up.attach room s level side e r) (up.attach room′ s′ level side e′ r) = weaken (omega arith) B (omega arith) in
         after-alike C (λ done. rw (← f) (meet-alike C done side r (omega (arith, l, B .since)) (omega (arith, m, A .kept, M .names)) (up.meeting room (up.attach room s level side e r) level side e) (λ q u. found-small B done level side e q u)))
 
-    on-row-alike : {k : ℕ} {s : State T J} {s′ : State T′ J′} → Alike 1 k s s′ → (level : ℕ) → level ≤ 12 → (side : Side) {e : Edge P} {e′ : Edge P′} → AlikeEdge R most e e′ → (r : ℕ) → r < s .peak → r ≤ s .records → Alike 0 k (up.onRow room next s level side e r) (up.onRow room′ next′ s′ level side e′ r)
+    on-row-alike : {k : ℕ} {s : State T J} {s′ : State T′ J′} → Alike 1 k s s′ → (level : ℕ) → level ≤ 12 → (side : Side) {e : LevelEdge P} {e′ : LevelEdge P′} → AlikeEdge R most e e′ → (r : ℕ) → r < s .peak → r ≤ s .records → Alike 0 k (up.onRow room next s level side e r) (up.onRow room′ next′ s′ level side e′ r)
     on-row-alike {k} {s} {s′} A level lv side h r l m =
         let A₁ : Alike 1 (s .peak) s s′ = weaken (omega arith) A (omega arith) in
         let B = attach-alike A₁ level lv side h r l m in
@@ -343,7 +343,7 @@ module _ {P T J P′ T′ J′ : Type 0} {room : Room P T J} {room′ : Room P�
         weaken (omega arith) C (omega (arith, A .since, B .since, C .since))
 
     -- step 1: the row found, or the lowest free one opened, or none
-    in-chain-alike : {k : ℕ} {s : State T J} {s′ : State T′ J′} → Alike 0 k s s′ → s .end ≡ Done → (level : ℕ) → level ≤ 12 → (side : Side) {e : Edge P} {e′ : Edge P′} → AlikeEdge R most e e′ → (f : Found) → ((q : ℕ) → f ≡ At q → q < s .peak) → Alike 0 k (up.inChain room next s level side e f) (up.inChain room′ next′ s′ level side e′ f)
+    in-chain-alike : {k : ℕ} {s : State T J} {s′ : State T′ J′} → Alike 0 k s s′ → s .end ≡ Done → (level : ℕ) → level ≤ 12 → (side : Side) {e : LevelEdge P} {e′ : LevelEdge P′} → AlikeEdge R most e e′ → (f : Found) → ((q : ℕ) → f ≡ At q → q < s .peak) → Alike 0 k (up.inChain room next s level side e f) (up.inChain room′ next′ s′ level side e′ f)
     unfolding up.inChain
     in-chain-alike A done level lv side h (At r) g =
         let l = g r refl in
@@ -362,16 +362,16 @@ module _ {P T J P′ T′ J′ : Type 0} {room : Room P T J} {room′ : Room P�
         none : Alike 0 k (up.ended NoFreeRow s) (up.ended NoFreeRow s′)
         none = end-early NoFreeRow (λ x. let z : _≡_ {A = ℕ} 0 1 = cc in omega arith) A
 
-    steps-alike : {k : ℕ} {s : State T J} {s′ : State T′ J′} → Alike 0 k s s′ → s .end ≡ Done → (level : ℕ) → level ≤ 12 → (side : Side) {e : Edge P} {e′ : Edge P′} → AlikeEdge R most e e′ → Alike 0 k (up.stepsOn room next s level side e) (up.stepsOn room′ next′ s′ level side e′)
+    steps-alike : {k : ℕ} {s : State T J} {s′ : State T′ J′} → Alike 0 k s s′ → s .end ≡ Done → (level : ℕ) → level ≤ 12 → (side : Side) {e : LevelEdge P} {e′ : LevelEdge P′} → AlikeEdge R most e e′ → Alike 0 k (up.stepsOn room next s level side e) (up.stepsOn room′ next′ s′ level side e′)
     unfolding up.stepsOn
     steps-alike {k} {s} A done level lv side {e} h =
         rw (← find-alike A level side (bottom-alike side h)) (in-chain-alike A done level lv side h (up.find room s level side (bottom side e)) (found-in-time s level side (bottom side e)))
 
-  side-alike : {e : Edge P} {e′ : Edge P′} → AlikeEdge R most e e′ → sideOf (room .places) e ≡ sideOf (room′ .places) e′
+  side-alike : {e : LevelEdge P} {e′ : LevelEdge P′} → AlikeEdge R most e e′ → sideOf (room .places) e ≡ sideOf (room′ .places) e′
   side-alike h = λ i. sideTest (M .below (h .tail) (h .head) i)
 
   -- every treatment is alike, by the levels left
-  treat-alike : (left level : ℕ) → level + left ≤ 12 → (k : ℕ) (s : State T J) (s′ : State T′ J′) (e : Edge P) (e′ : Edge P′) → Alike 0 k s s′ → s .end ≡ Done → AlikeEdge R most e e′ → Alike 0 k (up.treat room left level s e) (up.treat room′ left level s′ e′)
+  treat-alike : (left level : ℕ) → level + left ≤ 12 → (k : ℕ) (s : State T J) (s′ : State T′ J′) (e : LevelEdge P) (e′ : LevelEdge P′) → Alike 0 k s s′ → s .end ≡ Done → AlikeEdge R most e e′ → Alike 0 k (up.treat room left level s e) (up.treat room′ left level s′ e′)
   unfolding up.treat
   treat-alike zero level l k s s′ e e′ A done h =
       pick-alike _ _ (M .same (h .tail) (h .head)) (λ q. close-alike A level (omega arith) h) (λ q. overrun A)
@@ -384,7 +384,7 @@ module _ {P T J P′ T′ J′ : Type 0} {room : Room P T J} {room′ : Room P�
     pub edge : w .edge ≡ w′ .edge
 
   -- the sweep up in the two rooms
-  pub sweep-alike : (list : ℕ → Edge P) (list′ : ℕ → Edge P′) (n : ℕ) → ((i : ℕ) → i < n → AlikeEdge R most (list i) (list′ i)) → {s : State T J} {s′ : State T′ J′} → Alike 0 0 s s′ → AlikeSweep (up.sweepUp room list s n) (up.sweepUp room′ list′ s′ n)
+  pub sweep-alike : (list : ℕ → LevelEdge P) (list′ : ℕ → LevelEdge P′) (n : ℕ) → ((i : ℕ) → i < n → AlikeEdge R most (list i) (list′ i)) → {s : State T J} {s′ : State T′ J′} → Alike 0 0 s s′ → AlikeSweep (up.sweepUp room list s n) (up.sweepUp room′ list′ s′ n)
   unfolding up.sweepUp
   sweep-alike list list′ zero h A = record { state = A; edge = refl }
   sweep-alike list list′ (suc n) h {s} {s′} A =

@@ -3,22 +3,22 @@ use mathlib.Core.Path.{_≡_, refl, ap}
 use Prim.Native.Nat.{ℕ, zero, suc, _+_, _<_}
 use native.Mathlib.Omega.{arith}
 use Rattle.steps.specs.Rows.{Chain, inRow, closing, Record, Journal}
-use Rattle.steps.specs.SweepDown.{Numbers, Tables, Reading, give, shifted, readRecord, sweepDown}
+use Rattle.steps.specs.SweepDown.{Pair, Tables, Reading, give, shifted, readRecord, sweepDown}
 
 -- which rows are there, and which values a row and an answer can hold
 pub record Holding : Type 1 where
   pub Row : ℕ → Type 0
-  pub InRow : ℕ → Numbers → Type 0
-  pub InAnswer : ℕ → Numbers → Type 0
+  pub InRow : ℕ → Pair → Type 0
+  pub InAnswer : ℕ → Pair → Type 0
 
 pub record MatchDown {T A T′ A′ : Type 0} (tables : Tables T A) (tables′ : Tables T′ A′) (Rows : T → T′ → Type 0) (Answers : A → A′ → Type 0) (H : Holding) : Type 0 where
   pub look : {t : T} {t′ : T′} → Rows t t′ → (r : ℕ) → H .Row r → tables .look t r ≡ tables′ .look t′ r
-  pub given : {t : T} {t′ : T′} → Rows t t′ → (r : ℕ) (v : Numbers) → H .InRow r v → Rows (tables .given t r v) (tables′ .given t′ r v)
-  pub answered : {a : A} {a′ : A′} → Answers a a′ → (e : ℕ) (v : Numbers) → H .InAnswer e v → Answers (tables .answered a e v) (tables′ .answered a′ e v)
+  pub given : {t : T} {t′ : T′} → Rows t t′ → (r : ℕ) (v : Pair) → H .InRow r v → Rows (tables .given t r v) (tables′ .given t′ r v)
+  pub answered : {a : A} {a′ : A′} → Answers a a′ → (e : ℕ) (v : Pair) → H .InAnswer e v → Answers (tables .answered a e v) (tables′ .answered a′ e v)
 
 -- what one record gives can be held
 module _ {T A : Type 0} (tables : Tables T A) (H : Holding) where
-  abbrev pub GiveHeld : ℕ → ℕ → Numbers → Type 0
+  abbrev pub GiveHeld : ℕ → ℕ → Pair → Type 0
   GiveHeld zero name v = H .InAnswer name v
   GiveHeld (suc level) name v = H .InRow name v
 
@@ -37,7 +37,7 @@ module _ {T A T′ A′ : Type 0} {tables : Tables T A} {tables′ : Tables T′
     pub answers : Answers (d .answers) (d′ .answers)
     pub polygons : d .polygons ≡ d′ .polygons
 
-  give-alike : {d : Reading T A} {d′ : Reading T′ A′} → AlikeReading d d′ → (level name : ℕ) {v v′ : Numbers} → v ≡ v′ → GiveHeld tables H level name v → AlikeReading (give tables d level name v) (give tables′ d′ level name v′)
+  give-alike : {d : Reading T A} {d′ : Reading T′ A′} → AlikeReading d d′ → (level name : ℕ) {v v′ : Pair} → v ≡ v′ → GiveHeld tables H level name v → AlikeReading (give tables d level name v) (give tables′ d′ level name v′)
   give-alike A zero name {v} e h = rw (← e) (record { table = A .table; answers = M .answered (A .answers) name v h; polygons = A .polygons })
   give-alike A (suc level) name {v} e h = rw (← e) (record { table = M .given (A .table) name v h; answers = A .answers; polygons = A .polygons })
 

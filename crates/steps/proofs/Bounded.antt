@@ -8,7 +8,7 @@ use Rattle.laws.specs.Counting.{largest}
 use Rattle.laws.proofs.Largest.{largest-bound}
 use Rattle.steps.specs.declared.End.{End}
 use Rattle.steps.specs.declared.End.the-variants.{Done, NoFreeRow, Overrun}
-use Rattle.steps.specs.Rows.{Chain, inRow, closing, Record, Row, Edge, Room, Journal}
+use Rattle.steps.specs.Rows.{Chain, inRow, closing, Record, Row, LevelEdge, Room, Journal}
 use Rattle.steps.specs.SweepUp.{State, Sweep, sweepUp, nextEdge, treat, levels, start}
 use Rattle.steps.specs.SweepDown.{Tables, Reading, give, shifted, readRecord, sweepDown}
 use Rattle.steps.proofs.Alike.{AlikeRow, AlikeEdge, Match, start-alike, sweep-alike}
@@ -39,7 +39,7 @@ pub record Within {P T J : Type 0} (room : Room P T J) (s : State T J) : Type 0 
   pub named : s .peak ≤ room .rows
   pub little : s .end ≡ Done → s .peak ≤ s .records
 
-pub sweep-within : {P T J : Type 0} (room : Room P T J) (list : ℕ → Edge P) (n : ℕ) (t : T) (j : J) → Within room (sweepUp room list (start t j) n .state)
+pub sweep-within : {P T J : Type 0} (room : Room P T J) (list : ℕ → LevelEdge P) (n : ℕ) (t : T) (j : J) → Within room (sweepUp room list (start t j) n .state)
 sweep-within room list n t j =
     let B = sweep-alike M list list n same (start-alike M refl refl) .state in
     record { kept = B .kept; named = B .named; little = λ e. omega (arith, B .little e) }
@@ -54,7 +54,7 @@ sweep-within room list n t j =
     same : (i : ℕ) → i < n → AlikeEdge (λ p q. p ≡ q) most (list i) (list i)
     same i l = record { name = refl; small = omega (arith, largest-bound (λ k. list k .name) n i l); tail = refl; head = refl; length = refl }
 
-pub edge-within : {P T J : Type 0} (room : Room P T J) (list : ℕ → Edge P) (s : State T J) (n : ℕ) → sweepUp room list s n .edge ≤ n
+pub edge-within : {P T J : Type 0} (room : Room P T J) (list : ℕ → LevelEdge P) (s : State T J) (n : ℕ) → sweepUp room list s n .edge ≤ n
 unfolding sweepUp
 edge-within room list s zero = omega arith
 edge-within {P} {T} {J} room list s (suc n) = by (sweepUp room list s n .state .end) (edge-within room list s n)

@@ -8,7 +8,7 @@ use lib.IntN.{pos, natAbs}
 use lib.ListN.{length}
 use Rattle.laws.specs.Counting as counting
 use Rattle.sheet.specs.Edges as edges
-use Rattle.sheet.specs.Edges.{Sheet, sheetOf}
+use Rattle.sheet.specs.Edges.{Drawing, drawingOf}
 use Rattle.sheet.specs.Rank as ranks
 use Rattle.sheet.proofs.Drawn.{triangle, twoEdges, square, twoPeaks, touching}
 use Rattle.steps.specs.declared.End.{End}
@@ -17,7 +17,7 @@ use Rattle.steps.specs.Rows.{Row, Record, Room, closing}
 use Rattle.steps.specs.SweepUp as up
 use Rattle.steps.specs.SweepUp.{State, Sweep, sweepUp, listEdge, start}
 use Rattle.steps.specs.SweepDown as down
-use Rattle.steps.specs.SweepDown.{Numbers, Reading, sweepDown}
+use Rattle.steps.specs.SweepDown.{Pair, Reading, sweepDown}
 use Rattle.steps.specs.Plain as plain
 use Rattle.steps.specs.Plain.{plainTable, plainJournal, plainTables, newRow, freeRow}
 
@@ -32,10 +32,10 @@ record Worked : Type 0 where
   records : ℕ
   pairs : List ℕ
 
-abbrev none : Numbers
+abbrev none : Pair
 none = record { polygon = 0; sequence = pos 0 }
 
-abbrev roomFor : Sheet → ℕ → Room ℕ (ℕ → Row ℕ) (ℕ → Record)
+abbrev roomFor : Drawing → ℕ → Room ℕ (ℕ → Row ℕ) (ℕ → Record)
 roomFor sh rows =
     record {
       places = record { same = eqb; below = λ p q. ltb (sh .height p) (sh .height q); apart = sh .apart };
@@ -45,13 +45,13 @@ roomFor sh rows =
       records = 2 * sh .edges;
     }
 
-abbrev sweptOn : Sheet → ℕ → Sweep (ℕ → Row ℕ) (ℕ → Record)
+abbrev sweptOn : Drawing → ℕ → Sweep (ℕ → Row ℕ) (ℕ → Record)
 sweptOn sh rows =
     sweepUp (roomFor sh rows) (λ i. listEdge i (sh .tail i) (sh .head i))
     (start (λ r. freeRow (newRow 0 0)) (λ k. record { level = 0; name = 0; chain = closing; offset = pos 0 }))
     (sh .edges)
 
-abbrev readOf : State (ℕ → Row ℕ) (ℕ → Record) → Reading (ℕ → Numbers) (ℕ → Numbers)
+abbrev readOf : State (ℕ → Row ℕ) (ℕ → Record) → Reading (ℕ → Pair) (ℕ → Pair)
 readOf s = sweepDown plainTables plainJournal (s .journal) (s .records) (record { table = λ r. none; answers = λ e. none; polygons = 0 })
 
 abbrev sameEnd : End → End → Bool
@@ -66,7 +66,7 @@ sameEnd Overrun Done = false
 sameEnd Overrun NoFreeRow = false
 
 -- the pairs of the edges from i on, of n
-abbrev samePairs : (ℕ → Numbers) → ℕ → ℕ → List ℕ → Bool
+abbrev samePairs : (ℕ → Pair) → ℕ → ℕ → List ℕ → Bool
 samePairs answers n i [] = eqb i n
 samePairs answers n i (p ∷ []) = false
 samePairs answers n i (p ∷ s ∷ rest) = eqb (answers i .polygon) p && (eqb (natAbs (answers i .sequence)) s && samePairs answers n (suc i) rest)
@@ -79,7 +79,7 @@ rightNumbers NoFreeRow s w = true
 rightNumbers Overrun s w = true
 
 right : Worked → Bool
-right w = both (sweptOn (sheetOf (map pos (w .list))) (w .rows))
+right w = both (sweptOn (drawingOf (map pos (w .list))) (w .rows))
   where
     both : Sweep (ℕ → Row ℕ) (ℕ → Record) → Bool
     both s = sameEnd (s .state .end) (w .end) && (eqb (s .edge) (w .edge) && rightNumbers (s .state .end) (s .state) w)
@@ -114,7 +114,7 @@ unfolding
     counting.first-from
     edges.edgeAt
     edges.edgesIn
-    edges.sheetOf
+    edges.drawingOf
     ranks.shift
     ranks.rank
     up.foundBelow

@@ -4,7 +4,7 @@ use mathlib.Core.Bool.{true, false, cond}
 use lib.Dec.{eqb}
 use Rattle.steps.specs.declared.Side.{Side}
 use Rattle.steps.specs.Rows.{on, with, Branch, Row, Record, Table, Journal}
-use Rattle.steps.specs.SweepDown.{Numbers, Tables}
+use Rattle.steps.specs.SweepDown.{Pair, Tables}
 
 abbrev pub put : {A : Type 0} → (ℕ → A) → ℕ → A → ℕ → A
 put f i a j = cond (eqb j i) a (f j)
@@ -37,5 +37,5 @@ plainTable =
 unfoldable pub plainJournal : Journal (ℕ → Record)
 plainJournal = record { read = λ j k. j k; written = λ j k entry. put j k entry }
 
-unfoldable pub plainTables : Tables (ℕ → Numbers) (ℕ → Numbers)
+unfoldable pub plainTables : Tables (ℕ → Pair) (ℕ → Pair)
 plainTables = record { look = λ t r. t r; given = λ t r v. put t r v; answered = λ a e v. put a e v }

@@ -47,7 +47,7 @@ pub record Record : Type 0 where
   pub offset : ℤ
 
 -- an edge of any level: its name, its ends, and its lengths (1 rising and 0 falling for an edge of the list)
-pub record Edge (P : Type 0) : Type 0 where
+pub record LevelEdge (P : Type 0) : Type 0 where
   pub name : ℕ
   pub tail : P
   pub head : P

@@ -4,15 +4,15 @@ use lib.IntN.{ℤ, _+ℤ_}
 use Rattle.steps.specs.Rows.{Chain, inRow, closing, Record, Journal}
 
 -- a polygon number and a sequence number
-pub record Numbers : Type 0 where
+pub record Pair : Type 0 where
   pub polygon : ℕ
   pub sequence : ℤ
 
 -- a table of numbers by row name, and the lists of the edges' answers
 pub record Tables (T A : Type 0) : Type 0 where
-  pub look : T → ℕ → Numbers
-  pub given : T → ℕ → Numbers → T
-  pub answered : A → ℕ → Numbers → A
+  pub look : T → ℕ → Pair
+  pub given : T → ℕ → Pair → T
+  pub answered : A → ℕ → Pair → A
 
 pub record Reading (T A : Type 0) : Type 0 where
   pub table : T
@@ -21,12 +21,12 @@ pub record Reading (T A : Type 0) : Type 0 where
 
 module _ {T A : Type 0} (tables : Tables T A) where
   -- numbers for an edge of level 0 are its answer, for a row's edge they are given to the row
-  abbrev pub give : Reading T A → ℕ → ℕ → Numbers → Reading T A
+  abbrev pub give : Reading T A → ℕ → ℕ → Pair → Reading T A
   give d zero name v = record { table = d .table; answers = tables .answered (d .answers) name v; polygons = d .polygons }
   give d (suc level) name v = record { table = tables .given (d .table) name v; answers = d .answers; polygons = d .polygons }
 
   -- what its chain's row has, the offset added to the sequence number
-  abbrev pub shifted : Numbers → ℤ → Numbers
+  abbrev pub shifted : Pair → ℤ → Pair
   shifted v offset = record { polygon = v .polygon; sequence = v .sequence +ℤ offset }
 
   -- a closing record takes the next polygon number

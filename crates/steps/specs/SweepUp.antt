@@ -11,7 +11,7 @@ use Rattle.steps.specs.declared.Found.{Found}
 use Rattle.steps.specs.declared.Found.the-variants.{At, Nothing}
 use Rattle.steps.specs.declared.End.{End}
 use Rattle.steps.specs.declared.End.the-variants.{Done, NoFreeRow, Overrun}
-use Rattle.steps.specs.Rows.{otherSide, on, Row, inRow, closing, Record, Edge, Places, Room}
+use Rattle.steps.specs.Rows.{otherSide, on, Row, inRow, closing, Record, LevelEdge, Places, Room}
 
 -- the highest level that an edge may have, and the largest length that a row holds
 abbrev pub levels : ℕ
@@ -71,15 +71,15 @@ sideTest false = Falling
 
 module _ {P : Type 0} where
   -- an up edge works on the rising side
-  abbrev pub sideOf : Places P → Edge P → Side
+  abbrev pub sideOf : Places P → LevelEdge P → Side
   sideOf places e = sideTest (places .below (e .tail) (e .head))
 
   -- an edge's bottom and top: an up edge has its tail below
-  abbrev pub bottom : Side → Edge P → P
+  abbrev pub bottom : Side → LevelEdge P → P
   bottom Rising e = e .tail
   bottom Falling e = e .head
 
-  abbrev pub top : Side → Edge P → P
+  abbrev pub top : Side → LevelEdge P → P
   top s e = bottom (otherSide s) e
 
   -- the row is of the level, and its branch on the side is unfinished with its tip at the place
@@ -91,7 +91,7 @@ module _ {P : Type 0} where
   bothFinished row = row .branch .rising .finished && row .branch .falling .finished
 
   -- a finished row as an edge: tail at the falling tip, head at the rising tip, with the row's lengths and name
-  unfoldable pub asEdge : ℕ → Row P → Edge P
+  unfoldable pub asEdge : ℕ → Row P → LevelEdge P
   asEdge r row =
       record {
         name = r;
@@ -137,11 +137,11 @@ module _ {P T J : Type 0} (room : Room P T J) where
         end = s .end;
       }
 
-  abbrev pub longer : Side → Row P → Edge P → ℕ
+  abbrev pub longer : Side → Row P → LevelEdge P → ℕ
   longer side row e = on side (row .branch) .length + e .length .falling + e .length .rising
 
   -- the offset is the branch's length before the edge plus the edge's length on the other side
-  abbrev pub chainRecord : ℕ → Side → Row P → Edge P → ℕ → Record
+  abbrev pub chainRecord : ℕ → Side → Row P → LevelEdge P → ℕ → Record
   chainRecord level side row e r =
       record { level = level; name = e .name; chain = inRow r; offset = signed side (on side (row .branch) .length + on (otherSide side) (e .length)) }
 
@@ -150,14 +150,14 @@ module _ {P T J : Type 0} (room : Room P T J) where
   move s r side p n = withRows (room .table .moved (s .rows) r side p n) s
 
   -- steps 2 and 3, where the journal has room and the length fits
-  unfoldable pub attach : State T J → ℕ → Side → Edge P → ℕ → State T J
+  unfoldable pub attach : State T J → ℕ → Side → LevelEdge P → ℕ → State T J
   attach s level side e r =
       pickState (ltb (s .records) (room .records) && leb (longer side (look s r) e) mostLength)
       (move (write s (chainRecord level side (look s r) e r)) r side (top side e) (longer side (look s r) e))
       (ended Overrun s)
 
   -- a closing edge only writes a record, its offset the falling length
-  unfoldable pub close : State T J → ℕ → Edge P → State T J
+  unfoldable pub close : State T J → ℕ → LevelEdge P → State T J
   close s level e =
       pickState (ltb (s .records) (room .records))
       (write s (record { level = level; name = e .name; chain = closing; offset = pos (e .length .falling) }))
@@ -168,7 +168,7 @@ module _ {P T J : Type 0} (room : Room P T J) where
   pickMeeting true f = Nothing
   pickMeeting false f = f
 
-  unfoldable pub meeting : State T J → ℕ → Side → Edge P → Found
+  unfoldable pub meeting : State T J → ℕ → Side → LevelEdge P → Found
   meeting s level side e = pickMeeting (room .places .apart (top side e)) (find s level (otherSide side) (top side e))
 
   unfoldable pub finish : State T J → ℕ → Side → State T J
@@ -179,7 +179,7 @@ module _ {P T J : Type 0} (room : Room P T J) where
 
   -- how an edge of the next level is treated
   abbrev pub Treatment : Type 0
-  Treatment = State T J → Edge P → State T J
+  Treatment = State T J → LevelEdge P → State T J
 
   -- a row that was passed up is freed when its edge is treated
   abbrev pub thenFree : State T J → ℕ → State T J
@@ -200,37 +200,37 @@ module _ {P T J : Type 0} (room : Room P T J) where
   meet next s side r (At q) = passBoth next (finish (finish s q (otherSide side)) r side) q r
 
   -- steps 2 to 4 on a row
-  unfoldable pub onRow : Treatment → State T J → ℕ → Side → Edge P → ℕ → State T J
+  unfoldable pub onRow : Treatment → State T J → ℕ → Side → LevelEdge P → ℕ → State T J
   onRow next s level side e r =
       afterDone (attach s level side e r .end) (attach s level side e r)
       (meet next (attach s level side e r) side r (meeting (attach s level side e r) level side e))
 
   -- step 1 and what follows: the row found, or the lowest free row opened, or no row
-  unfoldable pub inChain : Treatment → State T J → ℕ → Side → Edge P → Found → State T J
+  unfoldable pub inChain : Treatment → State T J → ℕ → Side → LevelEdge P → Found → State T J
   inChain next s level side e (At r) = onRow next s level side e r
   inChain next s level side e Nothing =
       pickState (ltb (lowestFree s) (room .rows))
       (onRow next (open-row s (lowestFree s) level (bottom side e)) level side e (lowestFree s))
       (ended NoFreeRow s)
 
-  unfoldable pub stepsOn : Treatment → State T J → ℕ → Side → Edge P → State T J
+  unfoldable pub stepsOn : Treatment → State T J → ℕ → Side → LevelEdge P → State T J
   stepsOn next s level side e = inChain next s level side e (find s level side (bottom side e))
 
   -- an edge of a level with so many levels left above it: equal ends close an outline, otherwise the four steps
-  unfoldable pub treat : ℕ → ℕ → State T J → Edge P → State T J
+  unfoldable pub treat : ℕ → ℕ → State T J → LevelEdge P → State T J
   treat zero level s e = pickState (room .places .same (e .tail) (e .head)) (close s level e) (ended Overrun s)
   treat (suc left) level s e =
       pickState (room .places .same (e .tail) (e .head)) (close s level e)
       (stepsOn (treat left (suc level)) s level (sideOf (room .places) e) e)
 
   -- the first i edges of a list, treated in order at level 0
-  unfoldable pub sweepUp : (ℕ → Edge P) → State T J → ℕ → Sweep T J
+  unfoldable pub sweepUp : (ℕ → LevelEdge P) → State T J → ℕ → Sweep T J
   sweepUp list s zero = record { state = s; edge = 0 }
   sweepUp list s (suc i) =
       nextEdge (sweepUp list s i .state .end) (sweepUp list s i) (treat levels 0 (sweepUp list s i .state) (list i)) i
 
 -- an edge of the list at level 0: falling length 0, rising length 1
-abbrev pub listEdge : {P : Type 0} → ℕ → P → P → Edge P
+abbrev pub listEdge : {P : Type 0} → ℕ → P → P → LevelEdge P
 listEdge i tail head = record { name = i; tail = tail; head = head; length = record { rising = 1; falling = 0 } }
 
 -- before the first edge nothing is written and no row was ever open

@@ -26,7 +26,7 @@ use Rattle.journal.specs.Layout as journal
 use Rattle.journal.specs.Layout.{recordsIn, writtenIn}
 use Rattle.sweep.specs.declared.Progress.{Progress}
 use Rattle.sweep.specs.declared.NamedEdge.{NamedEdge}
-use Rattle.sweep.specs.Slices.{room, roomOf, state, edgeOf}
+use Rattle.sweep.specs.Slices.{room, lentRoom, state, edgeOf}
 
 -- an offset with its sign
 module _ (n : ℕ) (h : n < 2147483648) where
@@ -65,36 +65,36 @@ abbrev recorded : Progress → Progress
 recorded s = record { records = s .records + 1; peak = s .peak; end = s .end }
 
 module _ (a b : List ℤ) (s : Progress) (level : ℕ) (e : NamedEdge) where
-  pub close-full : recordsIn b ≤ s .records → up.ended Overrun (state a b s) ≡ up.close (roomOf a b) (state a b s) level (edgeOf e)
+  pub close-full : recordsIn b ≤ s .records → up.ended Overrun (state a b s) ≡ up.close (lentRoom a b) (state a b s) level (edgeOf e)
   unfolding up.close room
   close-full h = rw (le-ltb (s .records) (recordsIn b) h)
 
   pub close-written : {b₁ : List ℤ} {p : Progress} → s .records < recordsIn b →
       b₁ ≡ writtenIn b (s .records) (record { level = level; name = e .name; chain = closing; offset = pos (e .falling) }) → p ≡ recorded s →
-      state a b₁ p ≡ up.close (roomOf a b) (state a b s) level (edgeOf e)
-  unfolding up.close up.write room journal.slices
+      state a b₁ p ≡ up.close (lentRoom a b) (state a b s) level (edgeOf e)
+  unfolding up.close up.write room journal.recordSlice
   close-written h eb ep = rw (lt-ltb (s .records) (recordsIn b) h, eb, ep)
 
   module _ (side : Side) (r : ℕ) where
-    pub attach-full : recordsIn b ≤ s .records → up.ended Overrun (state a b s) ≡ up.attach (roomOf a b) (state a b s) level side (edgeOf e) r
+    pub attach-full : recordsIn b ≤ s .records → up.ended Overrun (state a b s) ≡ up.attach (lentRoom a b) (state a b s) level side (edgeOf e) r
     unfolding up.attach room
     attach-full h = rw (le-ltb (s .records) (recordsIn b) h)
 
     module _ (n : ℕ) (is : n ≡ on side (lookRow a r .branch) .length) where
-      pub attach-long : mostLength < n + e .falling + e .rising → up.ended Overrun (state a b s) ≡ up.attach (roomOf a b) (state a b s) level side (edgeOf e) r
-      unfolding up.attach room rows.slices
+      pub attach-long : mostLength < n + e .falling + e .rising → up.ended Overrun (state a b s) ≡ up.attach (lentRoom a b) (state a b s) level side (edgeOf e) r
+      unfolding up.attach room rows.rowSlice
       attach-long h = rw (← is, lt-leb (n + e .falling + e .rising) mostLength h, and-false)
 
       pub attach-done : {a₁ b₁ : List ℤ} {p : Progress} → s .records < recordsIn b → n + e .falling + e .rising ≤ mostLength →
           b₁ ≡ writtenIn b (s .records) (record { level = level; name = e .name; chain = inRow r; offset = up.signed side (n + on (otherSide side) (edgeOf e .length)) }) →
           a₁ ≡ movedIn a r side (up.top side (edgeOf e)) (n + e .falling + e .rising) → p ≡ recorded s →
-          state a₁ b₁ p ≡ up.attach (roomOf a b) (state a b s) level side (edgeOf e) r
-      unfolding up.attach up.write up.move room rows.slices journal.slices
+          state a₁ b₁ p ≡ up.attach (lentRoom a b) (state a b s) level side (edgeOf e) r
+      unfolding up.attach up.write up.move room rows.rowSlice journal.recordSlice
       attach-done hr hl eb ea ep = rw (← is, lt-ltb (s .records) (recordsIn b) hr, le-leb (n + e .falling + e .rising) mostLength hl, ea, eb, ep)
 
 module _ (a b : List ℤ) (s : Progress) (r level : ℕ) (p : Point) where
-  pub opened : {a₁ : List ℤ} {q : Progress} → r ≡ up.lowestFree (roomOf a b) (state a b s) → a₁ ≡ openedIn a r level p →
+  pub opened : {a₁ : List ℤ} {q : Progress} → r ≡ up.lowestFree (lentRoom a b) (state a b s) → a₁ ≡ openedIn a r level p →
       q ≡ record { records = s .records; peak = max (s .peak) (r + 1); end = s .end } →
-      state a₁ b q ≡ up.open-row (roomOf a b) (state a b s) r level p
-  unfolding up.open-row up.inUse up.lowestFree room rows.slices
+      state a₁ b q ≡ up.open-row (lentRoom a b) (state a b s) r level p
+  unfolding up.open-row up.inUse up.lowestFree room rows.rowSlice
   opened free ea eq = rw (ea, eq, free, count-by-lowest (λ k. lookRow a k .used) (s .peak))

@@ -12,11 +12,11 @@ use lib.Signed.{mag}
 use Rattle.laws.proofs.Deciding.{lt-or-le}
 use Rattle.laws.proofs.Sets.{getD-sets-other, getD-sets-in}
 use Rattle.journal.specs.Layout.{fitting, naturalPart}
-use Rattle.steps.specs.SweepDown.{Numbers}
+use Rattle.steps.specs.SweepDown.{Pair}
 use Rattle.sweep.specs.Lookup.{narrowed, numbersIn, givenIn}
 use Rattle.sweep.proofs.Sums.{narrowed-held}
 
-module _ (s : List ℤ) (r : ℕ) (v : Numbers) where
+module _ (s : List ℤ) (r : ℕ) (v : Pair) where
   abbrev stored : List ℤ
   stored = pos (fitting (v .polygon)) ∷ narrowed (v .sequence) ∷ []
 

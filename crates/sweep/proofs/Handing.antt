@@ -9,7 +9,7 @@ use lib.Seq.{sets}
 use lib.Signed.{mag}
 use Rattle.steps.specs.Rows.{Chain, inRow, closing, Record}
 use Rattle.steps.specs.SweepDown as steps
-use Rattle.journal.specs.Layout.{fitting, naturalPart, readRecord, slices}
+use Rattle.journal.specs.Layout.{fitting, naturalPart, recordAt, recordSlice}
 use Rattle.sweep.specs.Lookup.{Answers, narrowed, numbersIn, givenIn, answeredIn, tables, reading}
 use Rattle.sweep.proofs.Sums.{narrowed-held}
 
@@ -43,14 +43,14 @@ read-chain d e entry h i = i ∙ ap (λ (z : Chain). steps.readRecord tables d e
 
 -- the records below k, the last of them read
 pub down-more : (j : List ℤ) (k : ℕ) → 0 < k → (d e : steps.Reading (List ℤ) Answers) →
-    e ≡ steps.readRecord tables d (readRecord j (k - 1)) (readRecord j (k - 1) .chain) →
-    steps.sweepDown tables slices j (k - 1) e ≡ steps.sweepDown tables slices j k d
-unfolding steps.sweepDown slices
+    e ≡ steps.readRecord tables d (recordAt j (k - 1)) (recordAt j (k - 1) .chain) →
+    steps.sweepDown tables recordSlice j (k - 1) e ≡ steps.sweepDown tables recordSlice j k d
+unfolding steps.sweepDown recordSlice
 down-more j zero l d e h = absurd (omega arith)
 down-more j (suc k) l d e h =
     let z : suc k - 1 ≡ k = omega arith in
     rw (z, rw z at h)
 
-pub down-none : (j : List ℤ) (d : steps.Reading (List ℤ) Answers) → steps.sweepDown tables slices j 0 d ≡ d
+pub down-none : (j : List ℤ) (d : steps.Reading (List ℤ) Answers) → steps.sweepDown tables recordSlice j 0 d ≡ d
 unfolding steps.sweepDown
 down-none j d = refl

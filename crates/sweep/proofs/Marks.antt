@@ -10,7 +10,7 @@ use Rattle.laws.proofs.First.{first-le}
 use Rattle.sheet.specs.declared.Point.{Point}
 use Rattle.steps.specs.declared.Side.{Side}
 use Rattle.steps.specs.declared.End.the-variants.{Overrun}
-use Rattle.steps.specs.Rows.{Edge, closing}
+use Rattle.steps.specs.Rows.{LevelEdge, closing}
 use Rattle.steps.specs.SweepUp as up
 use Rattle.steps.specs.SweepUp.{State}
 use Rattle.rows.specs.Layout as rows
@@ -19,30 +19,30 @@ use Rattle.rows.specs.Marks.{Marked}
 use Rattle.rows.proofs.Writing.{opened-here, finished-only}
 use Rattle.rows.proofs.Marking.{marked-finished}
 use Rattle.sweep.specs.declared.Progress.{Progress}
-use Rattle.sweep.specs.Slices.{room, roomOf, state}
+use Rattle.sweep.specs.Slices.{room, lentRoom, state}
 
 -- marks are good up to the peak that a step tells
 pub marked-by : {m : List ℕ} {a b : List ℤ} {p : Progress} {t : State (List ℤ) (List ℤ)} → state a b p ≡ t → Marked m a (t .peak) → Marked m a (p .peak)
 marked-by e M = rw (ap (λ (z : State (List ℤ) (List ℤ)). z .peak) e) M
 
 -- a closing edge's record keeps the peak
-pub closing-peak : (a b : List ℤ) (s : Progress) (level : ℕ) (e : Edge Point) → up.close (roomOf a b) (state a b s) level e .peak ≡ s .peak
+pub closing-peak : (a b : List ℤ) (s : Progress) (level : ℕ) (e : LevelEdge Point) → up.close (lentRoom a b) (state a b s) level e .peak ≡ s .peak
 unfolding up.close up.write
-closing-peak a b s level e = by (ltb (s .records) (roomOf a b .records))
+closing-peak a b s level e = by (ltb (s .records) (lentRoom a b .records))
   where
     by : (t : Bool) →
-        up.pickState t (up.write (roomOf a b) (state a b s) (record { level = level; name = e .name; chain = closing; offset = pos (e .length .falling) })) (up.ended Overrun (state a b s)) .peak ≡ s .peak
+        up.pickState t (up.write (lentRoom a b) (state a b s) (record { level = level; name = e .name; chain = closing; offset = pos (e .length .falling) })) (up.ended Overrun (state a b s)) .peak ≡ s .peak
     by true = refl
     by false = refl
 
 module _ (a b : List ℤ) (s : Progress) (r level : ℕ) (p : Point) where
   -- the lowest free row is at most the peak
-  pub lowest-low : r ≡ up.lowestFree (roomOf a b) (state a b s) → r ≤ s .peak
-  unfolding up.lowestFree room rows.slices
+  pub lowest-low : r ≡ up.lowestFree (lentRoom a b) (state a b s) → r ≤ s .peak
+  unfolding up.lowestFree room rows.rowSlice
   lowest-low e = omega (arith, e, first-le (λ k. not (lookRow a k .used)) (s .peak))
 
-  pub opened-level : {a₁ : List ℤ} {q : Progress} → HasRow a r → state a₁ b q ≡ up.open-row (roomOf a b) (state a b s) r level p → lookRow a₁ r .level ≡ level
-  unfolding up.open-row room rows.slices
+  pub opened-level : {a₁ : List ℤ} {q : Progress} → HasRow a r → state a₁ b q ≡ up.open-row (lentRoom a b) (state a b s) r level p → lookRow a₁ r .level ≡ level
+  unfolding up.open-row room rows.rowSlice
   opened-level {a₁} has e =
       let is : a₁ ≡ openedIn a r level p = ap (λ (z : State (List ℤ) (List ℤ)). z .rows) e in
       rw (is, opened-here a r has level p)

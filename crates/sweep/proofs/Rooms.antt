@@ -14,9 +14,9 @@ use Rattle.steps.specs.SweepUp.{afterDone}
 use Rattle.rows.specs.Layout as rows
 use Rattle.rows.specs.Layout.{lookRow}
 use Rattle.sweep.specs.declared.Progress.{Progress}
-use Rattle.sweep.specs.Slices.{room, roomOf, state, isDone}
+use Rattle.sweep.specs.Slices.{room, lentRoom, state, isDone}
 
-pub same-room : (a b a₁ b₁ : List ℤ) → length a₁ ≡ length a → length b₁ ≡ length b → roomOf a₁ b₁ ≡ roomOf a b
+pub same-room : (a b a₁ b₁ : List ℤ) → length a₁ ≡ length a → length b₁ ≡ length b → lentRoom a₁ b₁ ≡ lentRoom a b
 same-room a b a₁ b₁ la lb = rw (la, lb)
 
 module _ {A : Type 0} (s t : A) where
@@ -32,6 +32,6 @@ module _ {A : Type 0} (s t : A) where
 
 -- the lowest free row on slices is the steps'
 pub lowest-is : (a : List ℤ) (s : Progress) {r : ℕ} → r ≡ first (λ k. not (lookRow a k .used)) (s .peak) → (b : List ℤ) →
-    r ≡ up.lowestFree (roomOf a b) (state a b s)
-unfolding up.lowestFree room rows.slices
+    r ≡ up.lowestFree (lentRoom a b) (state a b s)
+unfolding up.lowestFree room rows.rowSlice
 lowest-is a s e b = e

@@ -16,94 +16,94 @@ use Rattle.steps.specs.declared.Side.{Side}
 use Rattle.steps.specs.declared.Found.{Found}
 use Rattle.steps.specs.declared.Found.the-variants.{At, Nothing}
 use Rattle.steps.specs.declared.End.the-variants.{NoFreeRow, Overrun}
-use Rattle.steps.specs.Rows.{otherSide, Edge}
+use Rattle.steps.specs.Rows.{otherSide, LevelEdge}
 use Rattle.steps.specs.SweepUp as up
 use Rattle.steps.specs.SweepUp.{State, foundBelow, hasTip, bothFinished}
 use Rattle.rows.specs.Layout as rows
 use Rattle.rows.specs.Layout.{pointPlaces, rowsIn, lookRow, finishedIn, freedIn}
 use Rattle.sweep.specs.declared.Progress.{Progress}
 use Rattle.sweep.specs.declared.NamedEdge.{NamedEdge}
-use Rattle.sweep.specs.Slices.{room, roomOf, state, edgeOf, isDone}
+use Rattle.sweep.specs.Slices.{room, lentRoom, state, edgeOf, isDone}
 use Rattle.sweep.proofs.Rooms.{same-room, stops, goes-on, lowest-is}
 
 abbrev Next : Type 0
-Next = State (List ℤ) (List ℤ) → Edge Point → State (List ℤ) (List ℤ)
+Next = State (List ℤ) (List ℤ) → LevelEdge Point → State (List ℤ) (List ℤ)
 
 -- a row passed up
 module _ (a b : List ℤ) (next : Next) (s : Progress) (r : ℕ) {t : Bool} (h : t ≡ bothFinished (lookRow a r)) where
-  pub up-unfinished : t ≡ false → state a b s ≡ up.passUp (roomOf a b) next (state a b s) r
-  unfolding up.passUp room rows.slices
+  pub up-unfinished : t ≡ false → state a b s ≡ up.passUp (lentRoom a b) next (state a b s) r
+  unfolding up.passUp room rows.rowSlice
   up-unfinished k = rw (← h, k)
 
   module _ (k : t ≡ true) {e : NamedEdge} (g : edgeOf e ≡ up.asEdge r (lookRow a r)) {a₁ b₁ : List ℤ} {p : Progress}
       (i : state a₁ b₁ p ≡ next (state a b s) (edgeOf e)) where
-    pub up-stopped : isDone (p .end) ≡ false → state a₁ b₁ p ≡ up.passUp (roomOf a b) next (state a b s) r
-    unfolding up.passUp room rows.slices
+    pub up-stopped : isDone (p .end) ≡ false → state a₁ b₁ p ≡ up.passUp (lentRoom a b) next (state a b s) r
+    unfolding up.passUp room rows.rowSlice
     up-stopped d = rw (← h, k, ← g, ← i) (sym (stops _ _ (p .end) d))
 
-    pub up-freed : isDone (p .end) ≡ true → {a₂ : List ℤ} → a₂ ≡ freedIn a₁ r → state a₂ b₁ p ≡ up.passUp (roomOf a b) next (state a b s) r
-    unfolding up.passUp up.free room rows.slices
+    pub up-freed : isDone (p .end) ≡ true → {a₂ : List ℤ} → a₂ ≡ freedIn a₁ r → state a₂ b₁ p ≡ up.passUp (lentRoom a b) next (state a b s) r
+    unfolding up.passUp up.free room rows.rowSlice
     up-freed d {a₂} f = rw (← h, k, ← g, ← i, f) (sym (goes-on _ _ (p .end) d))
 
 -- the found row, then this row
 module _ (a b : List ℤ) (left level : ℕ) (s : Progress) (q r : ℕ) {a₁ b₁ : List ℤ} {p : Progress}
-    (i : state a₁ b₁ p ≡ up.passUp (roomOf a b) (up.treat (roomOf a b) left level) (state a b s) q) where
-  pub both-one : q ≡ r → state a₁ b₁ p ≡ up.passBoth (roomOf a b) (up.treat (roomOf a b) left level) (state a b s) q r
+    (i : state a₁ b₁ p ≡ up.passUp (lentRoom a b) (up.treat (lentRoom a b) left level) (state a b s) q) where
+  pub both-one : q ≡ r → state a₁ b₁ p ≡ up.passBoth (lentRoom a b) (up.treat (lentRoom a b) left level) (state a b s) q r
   unfolding up.passBoth
   both-one e = rw (eq-eqb q r e) i
 
   module _ (n : q ≡ r → ⊥) where
-    pub both-stopped : isDone (p .end) ≡ false → state a₁ b₁ p ≡ up.passBoth (roomOf a b) (up.treat (roomOf a b) left level) (state a b s) q r
+    pub both-stopped : isDone (p .end) ≡ false → state a₁ b₁ p ≡ up.passBoth (lentRoom a b) (up.treat (lentRoom a b) left level) (state a b s) q r
     unfolding up.passBoth
     both-stopped d = rw (ne-eqb q r n, ← i) (sym (stops _ _ (p .end) d))
 
     pub both-passed : isDone (p .end) ≡ true → length a₁ ≡ length a → length b₁ ≡ length b → {a₂ b₂ : List ℤ} {p₂ : Progress} →
-        state a₂ b₂ p₂ ≡ up.passUp (roomOf a₁ b₁) (up.treat (roomOf a₁ b₁) left level) (state a₁ b₁ p) r →
-        state a₂ b₂ p₂ ≡ up.passBoth (roomOf a b) (up.treat (roomOf a b) left level) (state a b s) q r
+        state a₂ b₂ p₂ ≡ up.passUp (lentRoom a₁ b₁) (up.treat (lentRoom a₁ b₁) left level) (state a₁ b₁ p) r →
+        state a₂ b₂ p₂ ≡ up.passBoth (lentRoom a b) (up.treat (lentRoom a b) left level) (state a b s) q r
     unfolding up.passBoth
     both-passed d la lb j = rw (ne-eqb q r n, ← i) ((rw (same-room a b a₁ b₁ la lb) at j) ∙ sym (goes-on _ _ (p .end) d))
 
 -- steps 2 to 4 on a row
 module _ (a b : List ℤ) (left level : ℕ) (s : Progress) (above : ℕ) (side : Side) (e : NamedEdge) (r : ℕ) {a₁ b₁ : List ℤ} {p : Progress}
-    (i : state a₁ b₁ p ≡ up.attach (roomOf a b) (state a b s) level side (edgeOf e) r) where
-  pub row-stopped : isDone (p .end) ≡ false → state a₁ b₁ p ≡ up.onRow (roomOf a b) (up.treat (roomOf a b) left above) (state a b s) level side (edgeOf e) r
+    (i : state a₁ b₁ p ≡ up.attach (lentRoom a b) (state a b s) level side (edgeOf e) r) where
+  pub row-stopped : isDone (p .end) ≡ false → state a₁ b₁ p ≡ up.onRow (lentRoom a b) (up.treat (lentRoom a b) left above) (state a b s) level side (edgeOf e) r
   unfolding up.onRow
   row-stopped d = rw (← i) (sym (stops _ _ (p .end) d))
 
   module _ (d : isDone (p .end) ≡ true) {other : Side} {top : Point} {f : Found} (os : other ≡ otherSide side) (ot : top ≡ up.bottom other (edgeOf e))
       (of : f ≡ foundBelow (λ k. hasTip pointPlaces level other top (lookRow a₁ k)) (p .peak)) where
-    met : up.meeting (roomOf a b) (state a₁ b₁ p) level side (edgeOf e) ≡ f
-    unfolding up.meeting up.find room rows.slices pointPlaces
+    met : up.meeting (lentRoom a b) (state a₁ b₁ p) level side (edgeOf e) ≡ f
+    unfolding up.meeting up.find room rows.rowSlice pointPlaces
     met = rw (of, ot, os)
 
-    pub row-unmet : f ≡ Nothing → state a₁ b₁ p ≡ up.onRow (roomOf a b) (up.treat (roomOf a b) left above) (state a b s) level side (edgeOf e) r
+    pub row-unmet : f ≡ Nothing → state a₁ b₁ p ≡ up.onRow (lentRoom a b) (up.treat (lentRoom a b) left above) (state a b s) level side (edgeOf e) r
     unfolding up.onRow up.meet
     row-unmet n = rw (← i, met, n) (sym (goes-on _ _ (p .end) d))
 
     module _ {q : ℕ} (n : f ≡ At q) {a₂ a₃ : List ℤ} (f₂ : a₂ ≡ finishedIn a₁ q other) (f₃ : a₃ ≡ finishedIn a₂ r side) where
-      finished : up.finish (roomOf a b) (up.finish (roomOf a b) (state a₁ b₁ p) q (otherSide side)) r side ≡ state a₃ b₁ p
-      unfolding up.finish room rows.slices
+      finished : up.finish (lentRoom a b) (up.finish (lentRoom a b) (state a₁ b₁ p) q (otherSide side)) r side ≡ state a₃ b₁ p
+      unfolding up.finish room rows.rowSlice
       finished = rw (f₃, f₂, os)
 
       pub row-met : length a₃ ≡ length a → length b₁ ≡ length b → {a₄ b₄ : List ℤ} {p₄ : Progress} →
-          state a₄ b₄ p₄ ≡ up.passBoth (roomOf a₃ b₁) (up.treat (roomOf a₃ b₁) left above) (state a₃ b₁ p) q r →
-          state a₄ b₄ p₄ ≡ up.onRow (roomOf a b) (up.treat (roomOf a b) left above) (state a b s) level side (edgeOf e) r
+          state a₄ b₄ p₄ ≡ up.passBoth (lentRoom a₃ b₁) (up.treat (lentRoom a₃ b₁) left above) (state a₃ b₁ p) q r →
+          state a₄ b₄ p₄ ≡ up.onRow (lentRoom a b) (up.treat (lentRoom a b) left above) (state a b s) level side (edgeOf e) r
       unfolding up.onRow up.meet
       row-met la lb j = rw (← i, met, n, finished) ((rw (same-room a b a₃ b₁ la lb) at j) ∙ sym (goes-on _ _ (p .end) d))
 
 -- an edge of any level
 module _ (a b : List ℤ) (left level : ℕ) (s : Progress) (e : NamedEdge) {t : Bool} (h : t ≡ isSame (e .tail) (e .head)) where
-  pub treat-closed : t ≡ true → {a₁ b₁ : List ℤ} {p : Progress} → state a₁ b₁ p ≡ up.close (roomOf a b) (state a b s) level (edgeOf e) →
-      state a₁ b₁ p ≡ up.treat (roomOf a b) left level (state a b s) (edgeOf e)
+  pub treat-closed : t ≡ true → {a₁ b₁ : List ℤ} {p : Progress} → state a₁ b₁ p ≡ up.close (lentRoom a b) (state a b s) level (edgeOf e) →
+      state a₁ b₁ p ≡ up.treat (lentRoom a b) left level (state a b s) (edgeOf e)
   unfolding up.treat room pointPlaces
   treat-closed k i = i ∙ sym (by left)
     where
-      by : (n : ℕ) → up.treat (roomOf a b) n level (state a b s) (edgeOf e) ≡ up.close (roomOf a b) (state a b s) level (edgeOf e)
+      by : (n : ℕ) → up.treat (lentRoom a b) n level (state a b s) (edgeOf e) ≡ up.close (lentRoom a b) (state a b s) level (edgeOf e)
       by zero = rw (← h, k)
       by (suc n) = rw (← h, k)
 
   module _ (k : t ≡ false) where
-    pub treat-none-left : left ≡ 0 → up.ended Overrun (state a b s) ≡ up.treat (roomOf a b) left level (state a b s) (edgeOf e)
+    pub treat-none-left : left ≡ 0 → up.ended Overrun (state a b s) ≡ up.treat (lentRoom a b) left level (state a b s) (edgeOf e)
     unfolding up.treat room pointPlaces
     treat-none-left z = rw (z, ← h, k)
 
@@ -116,34 +116,34 @@ pub record Searched (a b : List ℤ) (left level : ℕ) (s : Progress) (e : Name
   pub found-is : f ≡ foundBelow (λ r. hasTip pointPlaces level side p (lookRow a r)) (s .peak)
 
 module _ {a b : List ℤ} {left level : ℕ} {s : Progress} {e : NamedEdge} {side : Side} {p : Point} {f : Found} (S : Searched a b left level s e side p f) where
-  steps : up.treat (roomOf a b) left level (state a b s) (edgeOf e) ≡ up.inChain (roomOf a b) (up.treat (roomOf a b) (left - 1) (level + 1)) (state a b s) level side (edgeOf e) f
-  unfolding up.treat up.stepsOn up.find room rows.slices pointPlaces
+  steps : up.treat (lentRoom a b) left level (state a b s) (edgeOf e) ≡ up.inChain (lentRoom a b) (up.treat (lentRoom a b) (left - 1) (level + 1)) (state a b s) level side (edgeOf e) f
+  unfolding up.treat up.stepsOn up.find room rows.rowSlice pointPlaces
   steps = by left (S .above)
     where
       by : (n : ℕ) → 0 < n →
-          up.treat (roomOf a b) n level (state a b s) (edgeOf e) ≡ up.inChain (roomOf a b) (up.treat (roomOf a b) (n - 1) (level + 1)) (state a b s) level side (edgeOf e) f
+          up.treat (lentRoom a b) n level (state a b s) (edgeOf e) ≡ up.inChain (lentRoom a b) (up.treat (lentRoom a b) (n - 1) (level + 1)) (state a b s) level side (edgeOf e) f
       by zero m = absurd (omega arith)
       by (suc n) m = let z : suc n - 1 ≡ n = omega arith in rw (S .apart, z, add-one, S .found-is, S .bottom-is, S .side-is)
 
   pub treat-found : {r : ℕ} → f ≡ At r → {a₁ b₁ : List ℤ} {p₁ : Progress} →
-      state a₁ b₁ p₁ ≡ up.onRow (roomOf a b) (up.treat (roomOf a b) (left - 1) (level + 1)) (state a b s) level side (edgeOf e) r →
-      state a₁ b₁ p₁ ≡ up.treat (roomOf a b) left level (state a b s) (edgeOf e)
+      state a₁ b₁ p₁ ≡ up.onRow (lentRoom a b) (up.treat (lentRoom a b) (left - 1) (level + 1)) (state a b s) level side (edgeOf e) r →
+      state a₁ b₁ p₁ ≡ up.treat (lentRoom a b) left level (state a b s) (edgeOf e)
   unfolding up.inChain
   treat-found n i = rw (steps, n) i
 
   module _ (n : f ≡ Nothing) {r : ℕ} (er : r ≡ first (λ k. not (lookRow a k .used)) (s .peak)) where
-    pub treat-no-row : rowsIn a ≤ r → up.ended NoFreeRow (state a b s) ≡ up.treat (roomOf a b) left level (state a b s) (edgeOf e)
+    pub treat-no-row : rowsIn a ≤ r → up.ended NoFreeRow (state a b s) ≡ up.treat (lentRoom a b) left level (state a b s) (edgeOf e)
     unfolding up.inChain room
     treat-no-row m = rw (steps, n, ← lowest-is a s er b, le-ltb r (rowsIn a) m)
 
     module _ (m : r < rowsIn a) where
       in-free-row : (next : Next) →
-          up.inChain (roomOf a b) next (state a b s) level side (edgeOf e) Nothing ≡ up.onRow (roomOf a b) next (up.open-row (roomOf a b) (state a b s) r level p) level side (edgeOf e) r
+          up.inChain (lentRoom a b) next (state a b s) level side (edgeOf e) Nothing ≡ up.onRow (lentRoom a b) next (up.open-row (lentRoom a b) (state a b s) r level p) level side (edgeOf e) r
       unfolding up.inChain room
       in-free-row next = rw (← lowest-is a s er b, lt-ltb r (rowsIn a) m, S .bottom-is)
 
-      pub treat-opened : {a₁ : List ℤ} {p₁ : Progress} → state a₁ b p₁ ≡ up.open-row (roomOf a b) (state a b s) r level p → length a₁ ≡ length a →
+      pub treat-opened : {a₁ : List ℤ} {p₁ : Progress} → state a₁ b p₁ ≡ up.open-row (lentRoom a b) (state a b s) r level p → length a₁ ≡ length a →
           {a₂ b₂ : List ℤ} {p₂ : Progress} →
-          state a₂ b₂ p₂ ≡ up.onRow (roomOf a₁ b) (up.treat (roomOf a₁ b) (left - 1) (level + 1)) (state a₁ b p₁) level side (edgeOf e) r →
-          state a₂ b₂ p₂ ≡ up.treat (roomOf a b) left level (state a b s) (edgeOf e)
+          state a₂ b₂ p₂ ≡ up.onRow (lentRoom a₁ b) (up.treat (lentRoom a₁ b) (left - 1) (level + 1)) (state a₁ b p₁) level side (edgeOf e) r →
+          state a₂ b₂ p₂ ≡ up.treat (lentRoom a b) left level (state a b s) (edgeOf e)
       treat-opened {a₁} o la j = rw (steps, n, in-free-row, ← o) (rw (same-room a b a₁ b la refl) at j)

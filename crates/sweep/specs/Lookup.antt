@@ -9,7 +9,7 @@ use lib.IntN.{ℤ, pos}
 use lib.ListN.{getD, set}
 use lib.Seq.{sets}
 use lib.Signed.{mag}
-use Rattle.steps.specs.SweepDown.{Numbers, Tables, Reading}
+use Rattle.steps.specs.SweepDown.{Pair, Tables, Reading}
 use Rattle.journal.specs.Layout.{fitting, naturalPart}
 
 -- the polygon numbers and the sequence numbers of the edges
@@ -21,13 +21,13 @@ pub record Answers : Type 0 where
 unfoldable pub narrowed : ℤ → ℤ
 narrowed z = cond (ltb (mag z) 2147483648) z (pos 0)
 
-unfoldable pub numbersIn : List ℤ → ℕ → Numbers
+unfoldable pub numbersIn : List ℤ → ℕ → Pair
 numbersIn s r = record { polygon = naturalPart (getD s (8 * r) (pos 0)); sequence = getD s (8 * r + 1) (pos 0) }
 
-unfoldable pub givenIn : List ℤ → ℕ → Numbers → List ℤ
+unfoldable pub givenIn : List ℤ → ℕ → Pair → List ℤ
 givenIn s r v = sets s (8 * r) (pos (fitting (v .polygon)) ∷ narrowed (v .sequence) ∷ [])
 
-unfoldable pub answeredIn : Answers → ℕ → Numbers → Answers
+unfoldable pub answeredIn : Answers → ℕ → Pair → Answers
 answeredIn l e v = record { polygons = set (l .polygons) e (v .polygon); sequences = set (l .sequences) e (naturalPart (v .sequence)) }
 
 unfoldable pub tables : Tables (List ℤ) Answers

@@ -8,7 +8,7 @@ use Rattle.sheet.specs.declared.Point.{Point}
 use Rattle.sheet.specs.Edges.{edgeAt}
 use Rattle.steps.specs.declared.End.{End}
 use Rattle.steps.specs.declared.End.the-variants.{Done, NoFreeRow, Overrun}
-use Rattle.steps.specs.Rows.{Edge, Room}
+use Rattle.steps.specs.Rows.{LevelEdge, Room}
 use Rattle.steps.specs.SweepUp.{State, Sweep, listEdge}
 use Rattle.rows.specs.Layout as rows
 use Rattle.rows.specs.Layout.{pointPlaces, rowsIn}
@@ -20,21 +20,21 @@ use Rattle.sweep.specs.declared.Swept.{Swept}
 
 -- so many rows and records
 unfoldable pub room : ℕ → ℕ → Room Point (List ℤ) (List ℤ)
-room n m = record { places = pointPlaces; table = rows.slices; journal = journal.slices; rows = n; records = m }
+room n m = record { places = pointPlaces; table = rows.rowSlice; journal = journal.recordSlice; rows = n; records = m }
 
 -- as many as two slices have
-abbrev pub roomOf : List ℤ → List ℤ → Room Point (List ℤ) (List ℤ)
-roomOf a b = room (rowsIn a) (recordsIn b)
+abbrev pub lentRoom : List ℤ → List ℤ → Room Point (List ℤ) (List ℤ)
+lentRoom a b = room (rowsIn a) (recordsIn b)
 
 abbrev pub state : List ℤ → List ℤ → Progress → State (List ℤ) (List ℤ)
 state a b s = record { rows = a; journal = b; records = s .records; peak = s .peak; end = s .end }
 
-abbrev pub edgeOf : NamedEdge → Edge Point
+abbrev pub edgeOf : NamedEdge → LevelEdge Point
 edgeOf e = record { name = e .name; tail = e .tail; head = e .head; length = record { rising = e .rising; falling = e .falling } }
 
 -- the edges of a list at level 0
-abbrev pub edgesOf : List ℤ → ℕ → Edge Point
-edgesOf s i = listEdge i (edgeAt s i .tail) (edgeAt s i .head)
+abbrev pub listEdges : List ℤ → ℕ → LevelEdge Point
+listEdges s i = listEdge i (edgeAt s i .tail) (edgeAt s i .head)
 
 abbrev pub isDone : End → Bool
 isDone Done = true

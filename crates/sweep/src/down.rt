@@ -9,7 +9,7 @@ ghost use lib.ListN.{length, getD, set};
 ghost use lib.Seq.{sets};
 ghost use Rattle.steps.specs.Rows.{inRow};
 ghost use Rattle.steps.specs.SweepDown as steps;
-ghost use Rattle.journal.specs.Layout.{HasRecord, fitting, naturalPart, readRecord, slices};
+ghost use Rattle.journal.specs.Layout.{HasRecord, fitting, naturalPart, recordAt, recordSlice};
 ghost use Rattle.sweep.specs.Lookup.{narrowed, numbersIn, tables, reading};
 
 // The number at a place, 0 past the end.
@@ -101,7 +101,7 @@ fn hand_on(
     sequences: &mut [u32],
 )
     requires { ⌜ HasRecord (now journal) k × (r < 2147483648) ⌝ }
-    ensures { λ _. ⌜ ((n : ℕ) → reading (now (rows .exit)) (now (polygons .exit)) (now (sequences .exit)) n ≡ steps.readRecord tables (reading (now (rows .entry)) (now (polygons .entry)) (now (sequences .entry)) n) (readRecord (now (journal .entry)) k) (inRow r)) ⌝ }
+    ensures { λ _. ⌜ ((n : ℕ) → reading (now (rows .exit)) (now (polygons .exit)) (now (sequences .exit)) n ≡ steps.readRecord tables (reading (now (rows .entry)) (now (polygons .entry)) (now (sequences .entry)) n) (recordAt (now (journal .entry)) k) (inRow r)) ⌝ }
 {
     let name = journal::name_at(journal, k);
     let offset = journal::offset_at(journal, k);
@@ -125,7 +125,7 @@ fn read_record(
     sequences: &mut [u32],
 ) -> usize
     requires { ⌜ HasRecord (now journal) k × (count < 18446744073709551615) ⌝ }
-    ensures { λ n. ⌜ (reading (now (rows .exit)) (now (polygons .exit)) (now (sequences .exit)) n ≡ steps.readRecord tables (reading (now (rows .entry)) (now (polygons .entry)) (now (sequences .entry)) count) (readRecord (now (journal .entry)) k) (readRecord (now (journal .entry)) k .chain)) × (n ≤ count + 1) ⌝ }
+    ensures { λ n. ⌜ (reading (now (rows .exit)) (now (polygons .exit)) (now (sequences .exit)) n ≡ steps.readRecord tables (reading (now (rows .entry)) (now (polygons .entry)) (now (sequences .entry)) count) (recordAt (now (journal .entry)) k) (recordAt (now (journal .entry)) k .chain)) × (n ≤ count + 1) ⌝ }
 {
     let Found::At(r) = journal::chain_at(journal, k) else {
         let name = journal::name_at(journal, k);
@@ -146,7 +146,7 @@ pub fn sweep_down(
     sequences: &mut [u32],
 ) -> usize
     requires { ⌜ 4 * records ≤ length (now journal) ⌝ }
-    ensures { λ n. ⌜ reading (now (rows .exit)) (now (polygons .exit)) (now (sequences .exit)) n ≡ steps.sweepDown tables slices (now (journal .entry)) records (reading (now (rows .entry)) (now (polygons .entry)) (now (sequences .entry)) 0) ⌝ }
+    ensures { λ n. ⌜ reading (now (rows .exit)) (now (polygons .exit)) (now (sequences .exit)) n ≡ steps.sweepDown tables recordSlice (now (journal .entry)) records (reading (now (rows .entry)) (now (polygons .entry)) (now (sequences .entry)) 0) ⌝ }
 {
     let mut count: usize = 0;
     let mut k = records;

@@ -13,7 +13,7 @@ ghost use lib.IntN.{ℤ};
 ghost use Rattle.steps.specs.SweepUp as up;
 ghost use Rattle.rows.specs.Layout.{HasRow, lookRow};
 ghost use Rattle.rows.specs.Marks.{Marked};
-ghost use Rattle.sweep.specs.Slices.{roomOf, state, edgeOf};
+ghost use Rattle.sweep.specs.Slices.{lentRoom, state, edgeOf};
 
 // The largest length that a row holds.
 const MOST_LENGTH: u64 = 2_147_483_647;
@@ -32,7 +32,7 @@ fn signed(side: Side, n: u32) -> i32
 // A closing edge: only a record.
 fn close(journal: &mut [i32], s: Progress, level: u32, e: NamedEdge) -> Progress
     requires { ⌜ e .falling < 2147483648 ⌝ }
-    ensures { λ p. ⌜ ((a : List ℤ) → state a (now (journal .exit)) p ≡ up.close (roomOf a (now (journal .entry))) (state a (now (journal .entry)) s) level (edgeOf e)) ⌝ }
+    ensures { λ p. ⌜ ((a : List ℤ) → state a (now (journal .exit)) p ≡ up.close (lentRoom a (now (journal .entry))) (state a (now (journal .entry)) s) level (edgeOf e)) ⌝ }
 {
     let records = s.records;
     if journal::records_in(journal) <= records {
@@ -53,9 +53,9 @@ fn open_lowest(
     level: u32,
     tip: Point,
 ) -> Progress
-    requires { ⌜ HasRow (now rows) r × (level < 2147483647) × ((b : List ℤ) → r ≡ up.lowestFree (roomOf (now rows) b) (state (now rows) b s)) ⌝ }
+    requires { ⌜ HasRow (now rows) r × (level < 2147483647) × ((b : List ℤ) → r ≡ up.lowestFree (lentRoom (now rows) b) (state (now rows) b s)) ⌝ }
     requires { ⌜ Marked (now marks) (now rows) (s .peak) ⌝ }
-    ensures { λ p. ⌜ ((b : List ℤ) → state (now (rows .exit)) b p ≡ up.open-row (roomOf (now (rows .entry)) b) (state (now (rows .entry)) b s) r level tip) ⌝ }
+    ensures { λ p. ⌜ ((b : List ℤ) → state (now (rows .exit)) b p ≡ up.open-row (lentRoom (now (rows .entry)) b) (state (now (rows .entry)) b s) r level tip) ⌝ }
     ensures { λ p. ⌜ Marked (now (marks .exit)) (now (rows .exit)) (p .peak) ⌝ }
 {
     rows::open_row(rows, r, level, tip);
@@ -77,7 +77,7 @@ fn attach(
 ) -> Progress
     requires { ⌜ HasRow (now rows) r × (lookRow (now rows) r .level ≡ level) ⌝ }
     requires { ⌜ Marked (now marks) (now rows) (s .peak) ⌝ }
-    ensures { λ p. ⌜ state (now (rows .exit)) (now (journal .exit)) p ≡ up.attach (roomOf (now (rows .entry)) (now (journal .entry))) (state (now (rows .entry)) (now (journal .entry)) s) level side (edgeOf e) r ⌝ }
+    ensures { λ p. ⌜ state (now (rows .exit)) (now (journal .exit)) p ≡ up.attach (lentRoom (now (rows .entry)) (now (journal .entry))) (state (now (rows .entry)) (now (journal .entry)) s) level side (edgeOf e) r ⌝ }
     ensures { λ p. ⌜ Marked (now (marks .exit)) (now (rows .exit)) (p .peak) ⌝ }
 {
     let records = s.records;
@@ -128,7 +128,7 @@ pub fn treat(
 ) -> Progress
     requires { ⌜ (level + left ≡ 12) × (e .falling < 2147483648) ⌝ }
     requires { ⌜ Marked (now marks) (now rows) (s .peak) ⌝ }
-    ensures { λ p. ⌜ state (now (rows .exit)) (now (journal .exit)) p ≡ up.treat (roomOf (now (rows .entry)) (now (journal .entry))) left level (state (now (rows .entry)) (now (journal .entry)) s) (edgeOf e) ⌝ }
+    ensures { λ p. ⌜ state (now (rows .exit)) (now (journal .exit)) p ≡ up.treat (lentRoom (now (rows .entry)) (now (journal .entry))) left level (state (now (rows .entry)) (now (journal .entry)) s) (edgeOf e) ⌝ }
     ensures { λ p. ⌜ Marked (now (marks .exit)) (now (rows .exit)) (p .peak) ⌝ }
 {
     let tail = e.tail;
@@ -166,7 +166,7 @@ fn on_row(
 ) -> Progress
     requires { ⌜ HasRow (now rows) r × (lookRow (now rows) r .level ≡ level) × (level + left ≡ 12) × (0 < left) ⌝ }
     requires { ⌜ Marked (now marks) (now rows) (s .peak) ⌝ }
-    ensures { λ p. ⌜ state (now (rows .exit)) (now (journal .exit)) p ≡ up.onRow (roomOf (now (rows .entry)) (now (journal .entry))) (up.treat (roomOf (now (rows .entry)) (now (journal .entry))) (left - 1) (level + 1)) (state (now (rows .entry)) (now (journal .entry)) s) level side (edgeOf e) r ⌝ }
+    ensures { λ p. ⌜ state (now (rows .exit)) (now (journal .exit)) p ≡ up.onRow (lentRoom (now (rows .entry)) (now (journal .entry))) (up.treat (lentRoom (now (rows .entry)) (now (journal .entry))) (left - 1) (level + 1)) (state (now (rows .entry)) (now (journal .entry)) s) level side (edgeOf e) r ⌝ }
     ensures { λ p. ⌜ Marked (now (marks .exit)) (now (rows .exit)) (p .peak) ⌝ }
 {
     let t = attach(rows, journal, marks, s, level, side, e, r);
@@ -197,7 +197,7 @@ fn pass_both(
 ) -> Progress
     requires { ⌜ HasRow (now rows) q × HasRow (now rows) r × (level + left ≡ 12) × (0 < left) ⌝ }
     requires { ⌜ Marked (now marks) (now rows) (s .peak) ⌝ }
-    ensures { λ p. ⌜ state (now (rows .exit)) (now (journal .exit)) p ≡ up.passBoth (roomOf (now (rows .entry)) (now (journal .entry))) (up.treat (roomOf (now (rows .entry)) (now (journal .entry))) (left - 1) (level + 1)) (state (now (rows .entry)) (now (journal .entry)) s) q r ⌝ }
+    ensures { λ p. ⌜ state (now (rows .exit)) (now (journal .exit)) p ≡ up.passBoth (lentRoom (now (rows .entry)) (now (journal .entry))) (up.treat (lentRoom (now (rows .entry)) (now (journal .entry))) (left - 1) (level + 1)) (state (now (rows .entry)) (now (journal .entry)) s) q r ⌝ }
     ensures { λ p. ⌜ Marked (now (marks .exit)) (now (rows .exit)) (p .peak) ⌝ }
 {
     let t = pass_up(rows, journal, marks, s, level, left, q);
@@ -222,7 +222,7 @@ fn pass_up(
 ) -> Progress
     requires { ⌜ HasRow (now rows) r × (level + left ≡ 12) × (0 < left) ⌝ }
     requires { ⌜ Marked (now marks) (now rows) (s .peak) ⌝ }
-    ensures { λ p. ⌜ state (now (rows .exit)) (now (journal .exit)) p ≡ up.passUp (roomOf (now (rows .entry)) (now (journal .entry))) (up.treat (roomOf (now (rows .entry)) (now (journal .entry))) (left - 1) (level + 1)) (state (now (rows .entry)) (now (journal .entry)) s) r ⌝ }
+    ensures { λ p. ⌜ state (now (rows .exit)) (now (journal .exit)) p ≡ up.passUp (lentRoom (now (rows .entry)) (now (journal .entry))) (up.treat (lentRoom (now (rows .entry)) (now (journal .entry))) (left - 1) (level + 1)) (state (now (rows .entry)) (now (journal .entry)) s) r ⌝ }
     ensures { λ p. ⌜ Marked (now (marks .exit)) (now (rows .exit)) (p .peak) ⌝ }
 {
     if !rows::both_finished(rows, r) {

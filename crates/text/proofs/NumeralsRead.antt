@@ -12,7 +12,7 @@ use borrow.Author.Tests.{eqb-true, eq-eqb, ne-eqb, le-leb, le-ltb}
 use Rattle.laws.proofs.Deciding.{true-or-false, not-both}
 use Rattle.laws.proofs.First.{first-is}
 use Rattle.text.specs.declared.Number.the-variants.{Value}
-use Rattle.text.specs.Numbers.{byteAt, isDigit, minusAt, digitsAt, digitsFrom, valueAt, leadingZero, minusZero, isNumeral, signed, numeralAt, numberAt}
+use Rattle.text.specs.Numbers.{byteAt, isDigit, minusAt, digitsAt, digitsFrom, valueAt, leadingZero, minusZero, isNumeral, withSign, numeralAt, numberAt}
 use Rattle.text.specs.Written.{decimal, numeral, Short}
 use Rattle.text.proofs.Bytes.{digit-range}
 use Rattle.text.proofs.Numerals.{noDigit}
@@ -46,7 +46,7 @@ module _ (s : List ℕ) (i : ℕ) {w : List ℕ} {n : ℕ} (f : Writes 7 w n) (h
       by true m z = absurd (omega (arith, m refl))
       by false m z = refl
 
-  numeral-read : (minus : Bool) → (minus ≡ true → 1 ≤ n) → numeralAt s minus i (digitsFrom s i) ≡ Value (signed minus n) (record { at = i + length w })
+  numeral-read : (minus : Bool) → (minus ≡ true → 1 ≤ n) → numeralAt s minus i (digitsFrom s i) ≡ Value (withSign minus n) (record { at = i + length w })
   unfolding numeralAt
   numeral-read minus m = rw (digits-are, is-numeral minus m, value-is)
 
@@ -63,7 +63,7 @@ minus-spelled s i w h = (there, rest)
 
 pub number-read : (s : List ℕ) (i : ℕ) (z : ℤ) → Short z → Spelled s i (numeral z) → isDigit (byteAt s (i + length (numeral z))) ≡ false
     → numberAt s i ≡ Value z (record { at = i + length (numeral z) })
-unfolding numberAt numeral digitsAt signed
+unfolding numberAt numeral digitsAt withSign
 number-read s i (pos n) l h e =
     let f = decimal-writes 7 n l (omega arith) in
     rw (no-minus s i f h e) (numeral-read s i f h e false (λ q. absurd (not-both q refl)))

@@ -15,20 +15,20 @@ use Rattle.text.specs.declared.Number.{Number}
 use Rattle.text.specs.declared.Number.the-variants as number
 use Rattle.text.specs.declared.Line.{Line}
 use Rattle.text.specs.declared.Line.the-variants as line
-use Rattle.text.specs.Numbers.{byteAt, minusAt, digitsAt, digitsFrom, valueAt, isNumeral, signed, numeralAt, numberAt}
+use Rattle.text.specs.Numbers.{byteAt, minusAt, digitsAt, digitsFrom, valueAt, isNumeral, withSign, numeralAt, numberAt}
 use Rattle.text.specs.Lines.{pastAt, onward, followed, fieldAt, andThen, space, newline, edgeOf, lineAt}
 
 module _ (s : List ℕ) where
   pub record NumberParts (i : ℕ) (z : ℤ) (c : Cursor) : Type 0 where
     pub numeral : isNumeral (minusAt s i) (byteAt s (digitsAt s i)) (digitsFrom s (digitsAt s i)) ≡ true
-    pub value : z ≡ signed (minusAt s i) (valueAt s (digitsAt s i) (digitsFrom s (digitsAt s i)))
+    pub value : z ≡ withSign (minusAt s i) (valueAt s (digitsAt s i) (digitsFrom s (digitsAt s i)))
     pub end : c .at ≡ digitsAt s i + digitsFrom s (digitsAt s i)
 
   pub number-parts : (i : ℕ) {z : ℤ} {c : Cursor} → numberAt s i ≡ number.Value z c → NumberParts i z c
   unfolding numberAt numeralAt
   number-parts i {z} {c} e = ⊎-elim
       (λ t.
-      let v : signed (minusAt s i) (valueAt s (digitsAt s i) (digitsFrom s (digitsAt s i))) ≡ z = cc (rw t at e) in
+      let v : withSign (minusAt s i) (valueAt s (digitsAt s i) (digitsFrom s (digitsAt s i))) ≡ z = cc (rw t at e) in
       let q : digitsAt s i + digitsFrom s (digitsAt s i) ≡ c .at = cc (rw t at e) in
       record { numeral = t; value = sym v; end = sym q })
       (λ t. let q : _≡_ {A = ℕ} 0 1 = cc (rw t at e) in absurd (omega arith))

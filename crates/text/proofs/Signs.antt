@@ -9,14 +9,14 @@ use mir.Syntax.{w32}
 use mir.Val.{SFits, toZ, ofZ}
 use mir.ValLaws.{toZ-pos}
 use Rattle.sheet.proofs.Signed.{read-back}
-use Rattle.text.specs.Numbers.{signed}
+use Rattle.text.specs.Numbers.{withSign}
 
 mag-negative : (n : ℕ) → mag (negℤ (pos n)) ≤ n
 mag-negative zero = omega arith
 mag-negative (suc n) = omega arith
 
-pub mag-signed : (minus : Bool) (n : ℕ) → mag (signed minus n) ≤ n
-unfolding signed
+pub mag-signed : (minus : Bool) (n : ℕ) → mag (withSign minus n) ≤ n
+unfolding withSign
 mag-signed true n = mag-negative n
 mag-signed false n = omega arith
 

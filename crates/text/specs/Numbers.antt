@@ -48,13 +48,13 @@ minusZero minus lead = eqb lead 48 && minus
 unfoldable pub isNumeral : Bool → ℕ → ℕ → Bool
 isNumeral minus lead d = leb 1 d && (leb d 7 && (not (leadingZero lead d) && not (minusZero minus lead)))
 
-unfoldable pub signed : Bool → ℕ → ℤ
-signed minus n = cond minus (negℤ (pos n)) (pos n)
+unfoldable pub withSign : Bool → ℕ → ℤ
+withSign minus n = cond minus (negℤ (pos n)) (pos n)
 
 -- the number whose d digits begin at a, and the place after it
 unfoldable pub numeralAt : List ℕ → Bool → ℕ → ℕ → Number
 numeralAt s minus a d =
-    cond (isNumeral minus (byteAt s a) d) (Value (signed minus (valueAt s a d)) (record { at = a + d })) Malformed
+    cond (isNumeral minus (byteAt s a) d) (Value (withSign minus (valueAt s a d)) (record { at = a + d })) Malformed
 
 -- the number at i: it goes as far as digits stand
 unfoldable pub numberAt : List ℕ → ℕ → Number

@@ -4,7 +4,7 @@
 ghost use mathlib.Core.Path.{_≡_};
 ghost use Prim.Native.Nat.{_+_, _*_, _-_, _<_, _≤_};
 ghost use lib.ListN.{length};
-ghost use Rattle.text.specs.Numbers.{byteAt, isDigit, minusAt, digitsAt, digitsFrom, valueAt, isNumeral, signed, numberAt};
+ghost use Rattle.text.specs.Numbers.{byteAt, isDigit, minusAt, digitsAt, digitsFrom, valueAt, isNumeral, withSign, numberAt};
 ghost use Rattle.text.specs.Lines.{pastAt, fieldAt, lineAt};
 ghost use Rattle.text.specs.Texts.{readingNumber, readingPlace, newlines, unended, lineCount, placed, LinesTried, Outcome};
 use sheet::Point;
@@ -153,7 +153,7 @@ fn is_numeral(minus: bool, lead: u32, digits: usize) -> bool
 // A number with its sign.
 fn with_sign(minus: bool, value: u32) -> i32
     requires { ⌜ value < 2147483648 ⌝ }
-    ensures { λ r. ⌜ r ≡ signed minus value ⌝ }
+    ensures { λ r. ⌜ r ≡ withSign minus value ⌝ }
 {
     if minus {
         return 0 - (value as i32);

@@ -9,7 +9,7 @@ use borrow.Author.Tests.{eq-eqb, ne-eqb}
 use Rattle.laws.specs.Counting.{largest}
 use Rattle.laws.proofs.Deciding.{eq-or-ne}
 use Rattle.laws.proofs.Largest.{largest-is}
-use Rattle.sheet.specs.TurnList.{Numbers, TurnList}
+use Rattle.sheet.specs.TurnList.{NumberLists, TurnList}
 use Rattle.turns.specs.Keys.{keyOf, Keyed}
 use Rattle.turns.specs.Answers.{lastPolygon}
 use Rattle.turns.specs.Order.{Blank, Ordered}
@@ -19,7 +19,7 @@ use Rattle.turns.proofs.Keys.{key-before}
 pub blank-new : (n m : ℕ) → n ≤ m → Blank (replicate m m) n
 blank-new n m l = record { room = rw (length-replicate {A = ℕ} m m) l; nobody = λ p h. rw (getD-replicate {A = ℕ} m p m 0 (omega arith)) l }
 
-pub ordered-turns : {v : Numbers} {keys order : List ℕ} →
+pub ordered-turns : {v : NumberLists} {keys order : List ℕ} →
     Keyed v keys →
     Ordered v keys order →
     (turns : List ℕ) →
@@ -49,7 +49,7 @@ key-polygon-le : (p s k : ℕ) → keyOf p s ≤ k → p ≤ k / 4294967296
 unfolding keyOf
 key-polygon-le p s k l = omega arith
 
-module _ {v : Numbers} {keys : List ℕ} (K : Keyed v keys) where
+module _ {v : NumberLists} {keys : List ℕ} (K : Keyed v keys) where
   pub last-largest : lastPolygon keys (v .edges) ≡ largest (v .polygon) (v .edges)
   unfolding largest
   last-largest = ⊎-elim

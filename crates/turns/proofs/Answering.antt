@@ -12,11 +12,11 @@ use Rattle.sheet.specs.declared.TurnRefusal.{TurnRefusal}
 use Rattle.sheet.specs.declared.TurnRefusal.the-variants.{LengthsDiffer, NoPolygon, PairRepeated, Gap}
 use Rattle.sheet.specs.declared.TurnAnswer.{TurnAnswer}
 use Rattle.sheet.specs.declared.TurnAnswer.the-variants.{Accepted, Refused}
-use Rattle.sheet.specs.TurnList.{Numbers, numbersOf, noPolygon, pairRepeated, gap, refuseFirstTurn, lengthsDiffer, turned}
+use Rattle.sheet.specs.TurnList.{NumberLists, numberLists, noPolygon, pairRepeated, gap, refuseFirstTurn, lengthsDiffer, turned}
 use Rattle.turns.specs.Keys.{Sizes}
 use Rattle.turns.specs.Answers.{withoutPolygon, numbersTurned}
 
-module _ (v : Numbers) (test : Numbers → ℕ → Bool) (refusal : ℕ → TurnRefusal) (rest : TurnAnswer) {r : ℕ} (found : r ≡ first (test v) (v .edges)) where
+module _ (v : NumberLists) (test : NumberLists → ℕ → Bool) (refusal : ℕ → TurnRefusal) (rest : TurnAnswer) {r : ℕ} (found : r ≡ first (test v) (v .edges)) where
   pub refuses : r < v .edges → Refused (refusal r) ≡ refuseFirstTurn v test refusal rest
   refuses l = rw (← found, lt-ltb r (v .edges) l)
 
@@ -50,30 +50,30 @@ module _ (polygons sequences : List ℕ) (turns : ℕ) {differ : Bool} (told : d
 -- 12 to 14, and what is accepted
 module _ (polygons sequences : List ℕ) {none : ℕ} (without : none ≡ first (withoutPolygon polygons) (length polygons)) where
   pub numbers-without : none < length polygons → Refused (NoPolygon none) ≡ numbersTurned polygons sequences
-  unfolding numbersOf noPolygon withoutPolygon numbersTurned
-  numbers-without l = refuses (numbersOf polygons sequences) noPolygon NoPolygon _ without l
+  unfolding numberLists noPolygon withoutPolygon numbersTurned
+  numbers-without l = refuses (numberLists polygons sequences) noPolygon NoPolygon _ without l
 
-  module _ (l12 : length polygons ≤ none) {again : ℕ} (repeated : again ≡ first (pairRepeated (numbersOf polygons sequences)) (length polygons)) where
+  module _ (l12 : length polygons ≤ none) {again : ℕ} (repeated : again ≡ first (pairRepeated (numberLists polygons sequences)) (length polygons)) where
     pub numbers-again : again < length polygons → Refused (PairRepeated again) ≡ numbersTurned polygons sequences
-    unfolding numbersOf noPolygon withoutPolygon numbersTurned
+    unfolding numberLists noPolygon withoutPolygon numbersTurned
     numbers-again l =
-        refuses (numbersOf polygons sequences) pairRepeated PairRepeated _ repeated l
-        ∙ passes (numbersOf polygons sequences) noPolygon NoPolygon _ without l12
+        refuses (numberLists polygons sequences) pairRepeated PairRepeated _ repeated l
+        ∙ passes (numberLists polygons sequences) noPolygon NoPolygon _ without l12
 
-    module _ (l13 : length polygons ≤ again) {missing : ℕ} (gaps : missing ≡ first (gap (numbersOf polygons sequences)) (length polygons)) where
+    module _ (l13 : length polygons ≤ again) {missing : ℕ} (gaps : missing ≡ first (gap (numberLists polygons sequences)) (length polygons)) where
       pub numbers-gap : missing < length polygons → Refused (Gap missing) ≡ numbersTurned polygons sequences
-      unfolding numbersOf noPolygon withoutPolygon numbersTurned
+      unfolding numberLists noPolygon withoutPolygon numbersTurned
       numbers-gap l =
-          refuses (numbersOf polygons sequences) gap Gap _ gaps l
-          ∙ passes (numbersOf polygons sequences) pairRepeated PairRepeated _ repeated l13
-          ∙ passes (numbersOf polygons sequences) noPolygon NoPolygon _ without l12
+          refuses (numberLists polygons sequences) gap Gap _ gaps l
+          ∙ passes (numberLists polygons sequences) pairRepeated PairRepeated _ repeated l13
+          ∙ passes (numberLists polygons sequences) noPolygon NoPolygon _ without l12
 
       pub numbers-accepted : length polygons ≤ missing → {n : ℕ} →
-          n ≡ largest (numbersOf polygons sequences .polygon) (numbersOf polygons sequences .edges) →
+          n ≡ largest (numberLists polygons sequences .polygon) (numberLists polygons sequences .edges) →
           Accepted n ≡ numbersTurned polygons sequences
-      unfolding numbersOf noPolygon withoutPolygon numbersTurned
+      unfolding numberLists noPolygon withoutPolygon numbersTurned
       numbers-accepted l14 e =
           ap Accepted e
-          ∙ passes (numbersOf polygons sequences) gap Gap _ gaps l14
-          ∙ passes (numbersOf polygons sequences) pairRepeated PairRepeated _ repeated l13
-          ∙ passes (numbersOf polygons sequences) noPolygon NoPolygon _ without l12
+          ∙ passes (numberLists polygons sequences) gap Gap _ gaps l14
+          ∙ passes (numberLists polygons sequences) pairRepeated PairRepeated _ repeated l13
+          ∙ passes (numberLists polygons sequences) noPolygon NoPolygon _ without l12

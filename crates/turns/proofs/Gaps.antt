@@ -10,7 +10,7 @@ use lib.Dec.{eqb, ltb}
 use borrow.Author.Tests.{le-ltb, eq-eqb, eqb-true}
 use Rattle.laws.specs.Counting.{some-below}
 use Rattle.laws.proofs.Deciding.{lt-or-le, both-true}
-use Rattle.sheet.specs.TurnList.{Numbers, gap}
+use Rattle.sheet.specs.TurnList.{NumberLists, gap}
 use Rattle.turns.specs.Keys.{keyOf, keyAt, Keyed}
 use Rattle.turns.specs.Answers.{sequenceMissing, polygonMissing}
 use Rattle.turns.proofs.Keys.{Tells, between}
@@ -33,7 +33,7 @@ before-polygon : {p : ℕ} (q t : ℕ) → t < 4294967296 → q + 1 ≡ p → (k
 unfolding keyOf
 before-polygon q t tl e = (omega arith, omega arith)
 
-module _ {v : Numbers} {keys : List ℕ} (K : Keyed v keys) (e : ℕ) where
+module _ {v : NumberLists} {keys : List ℕ} (K : Keyed v keys) (e : ℕ) where
   -- an edge has the sequence number before, in the polygon
   sequence-there : ℕ → Bool
   sequence-there f = eqb (v .polygon f) (v .polygon e) && eqb (v .sequence f + 1) (v .sequence e)

@@ -14,7 +14,7 @@ use Rattle.laws.proofs.Deciding.{lt-or-le, both-true}
 use Rattle.laws.proofs.Moving.{Moves, some-moved}
 use Rattle.sorting.specs.Sorted.{Sorted}
 use Rattle.sorting.proofs.Standing.{old-stands, new-stood}
-use Rattle.sheet.specs.TurnList.{Numbers, Before}
+use Rattle.sheet.specs.TurnList.{NumberLists, Before}
 use Rattle.turns.specs.Keys.{keyOf, keyAt, standsBetween, Keyed}
 
 -- a polygon and a sequence number from their key
@@ -27,7 +27,7 @@ unfolding keyOf
 key-below p s sl tl l = (omega arith, λ h. omega arith)
 
 -- the keys in the list's order, sorted
-pub keyed-sorted : {v : Numbers} {packed keys : List ℕ} →
+pub keyed-sorted : {v : NumberLists} {packed keys : List ℕ} →
     ((e : ℕ) → e < v .edges → getD packed e 0 ≡ keyAt v e) →
     Sorted packed keys (v .edges) →
     v .edges ≤ length keys →
@@ -41,11 +41,11 @@ keyed-sorted packs m room narrow = record {
 }
 
 -- an edge passes a test where its key lies between two bounds, and only there
-pub record Tells (v : Numbers) (low high : ℕ) (test : ℕ → Bool) : Type 0 where
+pub record Tells (v : NumberLists) (low high : ℕ) (test : ℕ → Bool) : Type 0 where
   pub inside : (e : ℕ) → e < v .edges → low ≤ keyAt v e → keyAt v e < high → test e ≡ true
   pub outside : (e : ℕ) → e < v .edges → test e ≡ true → (low ≤ keyAt v e) × (keyAt v e < high)
 
-module _ {v : Numbers} {keys : List ℕ} (K : Keyed v keys) where
+module _ {v : NumberLists} {keys : List ℕ} (K : Keyed v keys) where
   pub pair-same : (e f : ℕ) → keyAt v e ≡ keyAt v f → (eqb (v .polygon e) (v .polygon f) && eqb (v .sequence e) (v .sequence f)) ≡ true
   pair-same e f q = let w = key-pair (K .narrow e) (K .narrow f) q in rw (eq-eqb _ _ (w .0), eq-eqb _ _ (w .1))
 

@@ -13,14 +13,14 @@ use Rattle.laws.proofs.Deciding.{lt-or-le, eq-or-ne, true-or-false}
 use Rattle.laws.proofs.First.{below-some, below-none}
 use Rattle.laws.proofs.Searching.{NoneBelow, none-yet, none-more, found-first, found-none}
 use Rattle.laws.proofs.Pigeonhole.{reached}
-use Rattle.sheet.specs.TurnList.{Numbers, pairRepeated}
+use Rattle.sheet.specs.TurnList.{NumberLists, pairRepeated}
 use Rattle.turns.specs.Keys.{keyAt, placeFrom, Keyed}
 use Rattle.turns.specs.Order.{Blank, Ordered}
 use Rattle.turns.proofs.Keys.{pair-same, key-same}
 use Rattle.turns.proofs.Places.{placeAt, place-below, place-key}
 
 -- the edges below e are written, and none of them repeats a pair
-pub record Marking (v : Numbers) (keys old order : List ℕ) (e : ℕ) : Type 0 where
+pub record Marking (v : NumberLists) (keys old order : List ℕ) (e : ℕ) : Type 0 where
   pub within : e ≤ v .edges
   pub size : length order ≡ length old
   pub room : v .edges ≤ length old
@@ -28,7 +28,7 @@ pub record Marking (v : Numbers) (keys old order : List ℕ) (e : ℕ) : Type 0 
   pub whose : (p : ℕ) → p < v .edges → (v .edges ≤ getD order p 0) ⊎ ((f : ℕ) × (f < e) × (placeAt v keys f ≡ p))
   pub none : NoneBelow (pairRepeated v) e
 
-pub marking-none : (v : Numbers) (keys old : List ℕ) → Blank old (v .edges) → Marking v keys old old 0
+pub marking-none : (v : NumberLists) (keys old : List ℕ) → Blank old (v .edges) → Marking v keys old old 0
 marking-none v keys old b = record {
   within = omega arith;
   size = refl;
@@ -38,7 +38,7 @@ marking-none v keys old b = record {
   none = none-yet _;
 }
 
-module _ {v : Numbers} {keys old order : List ℕ} {e : ℕ} (K : Keyed v keys) (m : Marking v keys old order e) where
+module _ {v : NumberLists} {keys old order : List ℕ} {e : ℕ} (K : Keyed v keys) (m : Marking v keys old order e) where
   -- the place of the next edge's key
   module _ (l : e < v .edges) {p : ℕ} (here : p ≡ placeAt v keys e) where
     pub marking-room : p < length order

@@ -18,15 +18,15 @@ use Rattle.laws.proofs.Once.{count-once}
 use Rattle.laws.proofs.Pigeonhole.{reached}
 use Rattle.sheet.specs.declared.TurnAnswer.{TurnAnswer}
 use Rattle.sheet.specs.declared.TurnAnswer.the-variants.{Accepted, Refused}
-use Rattle.sheet.specs.TurnList.{Numbers, Before, TurnList, TurnsAfter}
+use Rattle.sheet.specs.TurnList.{NumberLists, Before, TurnList, TurnsAfter}
 
-not-each-before : (v : Numbers) (e f : ℕ) → Before v e f → Before v f e → ⊥
+not-each-before : (v : NumberLists) (e f : ℕ) → Before v e f → Before v f e → ⊥
 not-each-before v e f a b = ⊎-elim
     (λ p. ⊎-elim (λ q. omega (arith, p, q)) (λ q. omega (arith, p, q)) b)
     (λ p. ⊎-elim (λ q. omega (arith, p, q)) (λ q. omega (arith, p, q)) b)
     a
 
-module _ {v : Numbers} {turns : List ℕ} (t : TurnList v turns) where
+module _ {v : NumberLists} {turns : List ℕ} (t : TurnList v turns) where
   -- in order, and so not the same edge
   later-differs : (i j : ℕ) → i < j → j < v .edges → getD turns i 0 ≡ getD turns j 0 → ⊥
   later-differs i j l jl q = let b = rw q at (t .in-order i j l jl) in not-each-before v _ _ b b
@@ -50,7 +50,7 @@ module _ {v : Numbers} {turns : List ℕ} (t : TurnList v turns) where
 abbrev Agree : List ℕ → List ℕ → ℕ → Type 0
 Agree s t k = (i : ℕ) → i < k → getD s i 0 ≡ getD t i 0
 
-module _ {v : Numbers} where
+module _ {v : NumberLists} where
   -- what t has at k stands in s at k or later
   not-earlier : (s : List ℕ) {t : List ℕ} → TurnList v t → (k : ℕ) → k < v .edges → Agree s t k → (i : ℕ) → i < v .edges → getD s i 0 ≡ getD t k 0 → k ≤ i
   not-earlier s T k l agree i il q = ⊎-elim (λ h. let z = places-differ T i k il l (sym (agree i h) ∙ q) in absurd (omega arith)) (λ h. h) (lt-or-le i k)

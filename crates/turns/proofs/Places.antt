@@ -13,7 +13,7 @@ use Rattle.laws.specs.Counting.{first}
 use Rattle.laws.proofs.Deciding.{lt-or-le, not-both}
 use Rattle.laws.proofs.First.{first-holds, first-least, below-some, below-none}
 use Rattle.laws.proofs.Halving.{Halving, halving-less, halving-more}
-use Rattle.sheet.specs.TurnList.{Numbers}
+use Rattle.sheet.specs.TurnList.{NumberLists}
 use Rattle.turns.specs.Keys.{keyAt, Rising, placeFrom, standsBetween, Keyed}
 
 -- a key is not below another
@@ -64,10 +64,10 @@ module _ {keys : List ℕ} {n : ℕ} (R : Rising keys n) where
             rw (le-leb low (getD keys k 0) (omega (arith, up, leb-true low (getD keys at 0) (first-holds (from-on keys low) n l))), le-ltb (getD keys k 0) high (omega arith))
 
 -- the place of an edge's key
-abbrev pub placeAt : Numbers → List ℕ → ℕ → ℕ
+abbrev pub placeAt : NumberLists → List ℕ → ℕ → ℕ
 placeAt v keys e = placeFrom keys (v .edges) (keyAt v e)
 
-module _ {v : Numbers} {keys : List ℕ} (K : Keyed v keys) (e : ℕ) (l : e < v .edges) where
+module _ {v : NumberLists} {keys : List ℕ} (K : Keyed v keys) (e : ℕ) (l : e < v .edges) where
   unpassed : placeAt v keys e ≤ K .stands e l .0
   unfolding placeFrom
   unpassed = ⊎-elim

@@ -5,7 +5,7 @@ use mathlib.Core.List.{List}
 use lib.Dec.{eqb, ltb}
 use lib.ListN.{length, getD}
 use Rattle.laws.specs.Counting.{largest}
-use Rattle.sheet.specs.TurnList.{numbersOf, refuseFirstTurn, noPolygon, pairRepeated, gap}
+use Rattle.sheet.specs.TurnList.{numberLists, refuseFirstTurn, noPolygon, pairRepeated, gap}
 use Rattle.sheet.specs.declared.TurnRefusal.the-variants.{NoPolygon, PairRepeated, Gap}
 use Rattle.sheet.specs.declared.TurnAnswer.{TurnAnswer}
 use Rattle.sheet.specs.declared.TurnAnswer.the-variants.{Accepted}
@@ -30,7 +30,7 @@ lastPolygon keys n = cond (eqb n 0) 0 (getD keys (n - 1) 0 / 4294967296)
 -- 12 to 14 in their order, and the number of polygons
 unfoldable pub numbersTurned : List ℕ → List ℕ → TurnAnswer
 numbersTurned polygons sequences =
-    refuseFirstTurn (numbersOf polygons sequences) noPolygon NoPolygon
-    (refuseFirstTurn (numbersOf polygons sequences) pairRepeated PairRepeated
-    (refuseFirstTurn (numbersOf polygons sequences) gap Gap
+    refuseFirstTurn (numberLists polygons sequences) noPolygon NoPolygon
+    (refuseFirstTurn (numberLists polygons sequences) pairRepeated PairRepeated
+    (refuseFirstTurn (numberLists polygons sequences) gap Gap
     (Accepted (largest (λ e. getD polygons e 0) (length polygons)))))

@@ -7,12 +7,12 @@ use mathlib.Core.List.{List}
 use lib.Dec.{leb, ltb}
 use lib.ListN.{length, getD}
 use Rattle.laws.specs.Counting.{some-below, first}
-use Rattle.sheet.specs.TurnList.{Numbers}
+use Rattle.sheet.specs.TurnList.{NumberLists}
 
 unfoldable pub keyOf : ℕ → ℕ → ℕ
 keyOf polygon sequence = polygon * 4294967296 + sequence
 
-abbrev pub keyAt : Numbers → ℕ → ℕ
+abbrev pub keyAt : NumberLists → ℕ → ℕ
 keyAt v e = keyOf (v .polygon e) (v .sequence e)
 
 -- a polygon list and a sequence list that pass 11
@@ -35,7 +35,7 @@ standsBetween keys n low high = some-below (λ k. leb low (getD keys k 0) && ltb
 
 -- The keys of all the edges, in order: each edge's key stands there, and each of them is an edge's. A sequence number has 32 bits, so that no two pairs
 -- share a key.
-pub record Keyed (v : Numbers) (keys : List ℕ) : Type 0 where
+pub record Keyed (v : NumberLists) (keys : List ℕ) : Type 0 where
   pub rising : Rising keys (v .edges)
   pub stands : (e : ℕ) → e < v .edges → (k : ℕ) × (k < v .edges) × (getD keys k 0 ≡ keyAt v e)
   pub held : (k : ℕ) → k < v .edges → (e : ℕ) × (e < v .edges) × (getD keys k 0 ≡ keyAt v e)

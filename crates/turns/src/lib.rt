@@ -7,7 +7,7 @@ ghost use mathlib.Core.Path.{_≡_};
 ghost use Prim.Native.Nat.{ℕ, _<_, _≤_};
 ghost use lib.ListN.{length, getD};
 ghost use Rattle.laws.specs.Counting.{first};
-ghost use Rattle.sheet.specs.TurnList.{numbersOf, lengthsDiffer, pairRepeated, gap, turned, TurnsAfter};
+ghost use Rattle.sheet.specs.TurnList.{numberLists, lengthsDiffer, pairRepeated, gap, turned, TurnsAfter};
 ghost use Rattle.turns.specs.Keys.{keyOf, keyAt, Sizes, Rising, Keyed, placeFrom, standsBetween};
 ghost use Rattle.turns.specs.Answers.{withoutPolygon, sequenceMissing, polygonMissing, lastPolygon, numbersTurned};
 ghost use Rattle.turns.specs.Order.{Blank, Ordered};
@@ -97,7 +97,7 @@ fn key(polygon: u32, sequence: u32) -> u64
 
 fn pack_keys(polygons: &[u32], sequences: &[u32], keys: &mut [u64])
     requires { ⌜ Sizes (now polygons) (now sequences) × (length (now polygons) ≤ length (now keys)) ⌝ }
-    ensures { λ _. ⌜ ((e : ℕ) → e < length (now (polygons .entry)) → getD (now (keys .exit)) e 0 ≡ keyAt (numbersOf (now (polygons .entry)) (now (sequences .entry))) e) ⌝ }
+    ensures { λ _. ⌜ ((e : ℕ) → e < length (now (polygons .entry)) → getD (now (keys .exit)) e 0 ≡ keyAt (numberLists (now (polygons .entry)) (now (sequences .entry))) e) ⌝ }
 {
     let mut e = 0;
     while e < polygons.len() {
@@ -110,7 +110,7 @@ fn pack_keys(polygons: &[u32], sequences: &[u32], keys: &mut [u64])
 // The keys of all the edges, in order.
 fn order_keys(polygons: &[u32], sequences: &[u32], keys: &mut [u64])
     requires { ⌜ Sizes (now polygons) (now sequences) × (length (now polygons) ≤ length (now keys)) ⌝ }
-    ensures { λ _. ⌜ Keyed (numbersOf (now (polygons .entry)) (now (sequences .entry))) (now (keys .exit)) ⌝ }
+    ensures { λ _. ⌜ Keyed (numberLists (now (polygons .entry)) (now (sequences .entry))) (now (keys .exit)) ⌝ }
 {
     pack_keys(polygons, sequences, keys);
     sorting::sort(keys, polygons.len());
@@ -136,10 +136,10 @@ fn place_from(keys: &[u64], n: usize, key: u64) -> usize
 // key.
 fn first_again(polygons: &[u32], sequences: &[u32], keys: &[u64], order: &mut [u32]) -> usize
     requires sizes { ⌜ Sizes (now polygons) (now sequences) ⌝ }
-    requires keys { ⌜ Keyed (numbersOf (now polygons) (now sequences)) (now keys) ⌝ }
+    requires keys { ⌜ Keyed (numberLists (now polygons) (now sequences)) (now keys) ⌝ }
     requires blank { ⌜ Blank (now order) (length (now polygons)) ⌝ }
-    ensures again { λ r. ⌜ r ≡ first (pairRepeated (numbersOf (now (polygons .entry)) (now (sequences .entry)))) (length (now (polygons .entry))) ⌝ }
-    ensures order { λ r. ⌜ (length (now (polygons .entry)) ≤ r → Ordered (numbersOf (now (polygons .entry)) (now (sequences .entry))) (now (keys .entry)) (now (order .exit))) ⌝ }
+    ensures again { λ r. ⌜ r ≡ first (pairRepeated (numberLists (now (polygons .entry)) (now (sequences .entry)))) (length (now (polygons .entry))) ⌝ }
+    ensures order { λ r. ⌜ (length (now (polygons .entry)) ≤ r → Ordered (numberLists (now (polygons .entry)) (now (sequences .entry))) (now (keys .entry)) (now (order .exit))) ⌝ }
 {
     let n = polygons.len();
     let mut later = 0;
@@ -192,8 +192,8 @@ fn polygon_missing(keys: &[u64], n: usize, polygon: u32) -> bool
 
 // Whether 14 holds of an edge.
 fn has_gap(polygons: &[u32], sequences: &[u32], keys: &[u64], e: usize) -> bool
-    requires { ⌜ Sizes (now polygons) (now sequences) × Keyed (numbersOf (now polygons) (now sequences)) (now keys) × (e < length (now polygons)) ⌝ }
-    ensures { λ r. ⌜ r ≡ gap (numbersOf (now (polygons .entry)) (now (sequences .entry))) e ⌝ }
+    requires { ⌜ Sizes (now polygons) (now sequences) × Keyed (numberLists (now polygons) (now sequences)) (now keys) × (e < length (now polygons)) ⌝ }
+    ensures { λ r. ⌜ r ≡ gap (numberLists (now (polygons .entry)) (now (sequences .entry))) e ⌝ }
 {
     let n = polygons.len();
     let polygon = polygons[e];
@@ -205,8 +205,8 @@ fn has_gap(polygons: &[u32], sequences: &[u32], keys: &[u64], e: usize) -> bool
 
 // 14: the first edge that it holds of, n where there is none.
 fn first_gap(polygons: &[u32], sequences: &[u32], keys: &[u64]) -> usize
-    requires { ⌜ Sizes (now polygons) (now sequences) × Keyed (numbersOf (now polygons) (now sequences)) (now keys) ⌝ }
-    ensures { λ r. ⌜ r ≡ first (gap (numbersOf (now (polygons .entry)) (now (sequences .entry)))) (length (now (polygons .entry))) ⌝ }
+    requires { ⌜ Sizes (now polygons) (now sequences) × Keyed (numberLists (now polygons) (now sequences)) (now keys) ⌝ }
+    ensures { λ r. ⌜ r ≡ first (gap (numberLists (now (polygons .entry)) (now (sequences .entry)))) (length (now (polygons .entry))) ⌝ }
 {
     let n = polygons.len();
     let mut e = 0;

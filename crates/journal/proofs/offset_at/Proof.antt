@@ -1,12 +1,12 @@
 -- `journal::offset_at` meets its contract. The fourth number of the record.
-use Rattle.journal.specs.Layout.{readRecord}
+use Rattle.journal.specs.Layout.{recordAt}
 use Rattle.laws.proofs.Bits.{read-back}
 use borrow.Author.Needs.{needs}
 use Rattle.journal.proofs.offset_at.Statement.{statement}
 use Rattle.journal.proofs.offset_at.Tie as tie
 
 returns : tie.Need-returns
-unfolding readRecord
+unfolding recordAt
 returns c = read-back _ (c .result .given)
 
 pub offset-at-spec : {M : Type 1} → statement M

@@ -4,7 +4,7 @@ use native.Mathlib.Omega.{arith}
 use mathlib.Core.Path.{_≡_, ap, _∙_}
 use Prim.Native.Nat.{_-_, _<_}
 use lib.ListN.{length}
-use Rattle.sheet.specs.TurnList.{numbersOf}
+use Rattle.sheet.specs.TurnList.{numberLists}
 use Rattle.turns.specs.Keys.{placeFrom}
 use Rattle.turns.proofs.Places.{placeAt}
 use Rattle.turns.proofs.Marking.{Marking, marking-none, marking-room, marking-found, marking-more, marking-all, marking-ordered}
@@ -12,7 +12,7 @@ use Rattle.turns.proofs.first_again.Statement.{statement}
 use Rattle.turns.proofs.first_again.Tie as tie
 
 abbrev Inv-loop : tie.InvT-loop
-Inv-loop polygons sequences keys order₀ n later₀ order later = Marking (numbersOf polygons sequences) keys order₀ order later
+Inv-loop polygons sequences keys order₀ n later₀ order later = Marking (numberLists polygons sequences) keys order₀ order later
 
 abbrev μ-loop : tie.MeasureT-loop
 μ-loop polygons sequences keys order₀ n later₀ order later = n - later
@@ -21,24 +21,24 @@ abbrev μ-loop : tie.MeasureT-loop
 here : (c : tie.After-place-from Inv-loop μ-loop) →
     c .place-from .result ≡
     placeAt
-    (numbersOf (c .before .before .before .before .before .before .before .before .before .before .args .polygons .now) (c .before .before .before .before .before .before .before .before .before .before .args .sequences .now))
+    (numberLists (c .before .before .before .before .before .before .before .before .before .before .args .polygons .now) (c .before .before .before .before .before .before .before .before .before .before .args .sequences .now))
     (c .before .before .before .before .before .before .before .before .before .before .args .keys .now)
     (c .before .before .before .before .before .loop .later)
-unfolding numbersOf
+unfolding numberLists
 here c = c .place-from .ensures ∙ ap (placeFrom _ _) (c .before .key .ensures)
 
 room : (c : tie.After-place-from Inv-loop μ-loop) → c .place-from .result < length (c .before .before .before .before .before .loop .order)
-unfolding numbersOf
+unfolding numberLists
 room c =
     let keyed = c .before .before .before .before .before .before .before .before .before .before .pre .1 .0 in
     marking-room keyed (c .before .before .before .before .before .loop .inv) (c .before .before .before .before .loop-test .taken) (here c)
 
 loop-holds : tie.Need-loop-holds Inv-loop μ-loop
-unfolding numbersOf
+unfolding numberLists
 loop-holds c = marking-none _ _ _ (c .before .before .before .before .pre .1 .1)
 
 place-from-requires : tie.Need-place-from-requires Inv-loop μ-loop
-unfolding numbersOf
+unfolding numberLists
 place-from-requires c κs = c .before .before .before .before .before .before .before .before .before .pre .1 .0 .rising
 
 mul-earlier : tie.Need-mul-earlier Inv-loop μ-loop
@@ -51,7 +51,7 @@ cast-earlier : tie.Need-cast-earlier Inv-loop μ-loop
 cast-earlier c = record { fits = omega (arith, c .slice-known2 .given (c .before .place-from .result)) }
 
 returns : tie.Need-returns Inv-loop μ-loop
-unfolding numbersOf
+unfolding numberLists
 returns c =
     let keyed = c .before .before .before .before .before .before .before .before .before .before .before .before .pre .1 .0 in
     (marking-found keyed (c .before .before .before .before .before .before .before .loop .inv) (c .before .before .before .before .before .before .loop-test .taken) (here (c .before .before)) (c .if1 .taken), λ all. absurd (omega arith))
@@ -63,13 +63,13 @@ slice-write-order : tie.Need-slice-write-order Inv-loop μ-loop
 slice-write-order c = room (c .before .before)
 
 loop-again : tie.Need-loop-again Inv-loop μ-loop
-unfolding numbersOf
+unfolding numberLists
 loop-again c =
     let keyed = c .before .before .before .before .before .before .before .before .before .before .before .before .pre .1 .0 in
     marking-more keyed (c .before .before .before .before .before .before .before .loop .inv) (c .before .before .before .before .before .before .loop-test .taken) (here (c .before .before)) (c .if1 .left)
 
 returns-2 : tie.Need-returns-2 Inv-loop μ-loop
-unfolding numbersOf
+unfolding numberLists
 returns-2 c =
     let keyed = c .before .before .before .before .before .before .pre .1 .0 in
     let all = c .loop-test .left in

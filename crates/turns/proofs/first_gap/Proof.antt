@@ -3,12 +3,12 @@ use borrow.Author.Needs.{needs}
 use mathlib.Core.Path.{sym, _∙_}
 use Prim.Native.Nat.{_≤_, _-_}
 use Rattle.laws.proofs.Searching.{NoneBelow, none-yet, none-more, found-first, found-none}
-use Rattle.sheet.specs.TurnList.{numbersOf, gap}
+use Rattle.sheet.specs.TurnList.{numberLists, gap}
 use Rattle.turns.proofs.first_gap.Statement.{statement}
 use Rattle.turns.proofs.first_gap.Tie as tie
 
 abbrev Inv-loop : tie.InvT-loop
-Inv-loop polygons sequences keys n e₀ e = (e ≤ n) × NoneBelow (gap (numbersOf polygons sequences)) e
+Inv-loop polygons sequences keys n e₀ e = (e ≤ n) × NoneBelow (gap (numberLists polygons sequences)) e
 
 abbrev μ-loop : tie.MeasureT-loop
 μ-loop polygons sequences keys n e₀ e = n - e

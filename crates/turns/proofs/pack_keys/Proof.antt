@@ -4,13 +4,13 @@ use native.Mathlib.Omega.{arith}
 use Prim.Native.Nat.{_≤_, _-_}
 use lib.ListN.{length}
 use Rattle.laws.proofs.Filling.{Filled, filled-none, filled-more}
-use Rattle.sheet.specs.TurnList.{numbersOf}
+use Rattle.sheet.specs.TurnList.{numberLists}
 use Rattle.turns.specs.Keys.{keyAt}
 use Rattle.turns.proofs.pack_keys.Statement.{statement}
 use Rattle.turns.proofs.pack_keys.Tie as tie
 
 abbrev Inv-loop : tie.InvT-loop
-Inv-loop polygons sequences keys₀ e₀ keys e = (e ≤ length polygons) × Filled (keyAt (numbersOf polygons sequences)) keys₀ keys e
+Inv-loop polygons sequences keys₀ e₀ keys e = (e ≤ length polygons) × Filled (keyAt (numberLists polygons sequences)) keys₀ keys e
 
 abbrev μ-loop : tie.MeasureT-loop
 μ-loop polygons sequences keys₀ e₀ keys e = length polygons - e
@@ -19,7 +19,7 @@ loop-holds : tie.Need-loop-holds Inv-loop μ-loop
 loop-holds c = (search needs, filled-none _ _)
 
 loop-again : tie.Need-loop-again Inv-loop μ-loop
-unfolding numbersOf
+unfolding numberLists
 loop-again c = (search needs, filled-more _ (c .before .before .before .before .loop .inv .1) (search needs) (c .key .ensures))
 
 returns : tie.Need-returns Inv-loop μ-loop

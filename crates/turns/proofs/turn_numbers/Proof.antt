@@ -2,7 +2,7 @@
 use borrow.Author.Needs.{needs}
 use native.Mathlib.Omega.{arith}
 use mathlib.Core.Path.{refl, _∙_}
-use Rattle.sheet.specs.TurnList.{numbersOf}
+use Rattle.sheet.specs.TurnList.{numberLists}
 use Rattle.turns.proofs.Answering.{numbers-without, numbers-again, numbers-gap, numbers-accepted}
 use Rattle.turns.proofs.Accepting.{blank-new, ordered-turns, last-largest}
 use Rattle.turns.proofs.turn_numbers.Statement.{statement}
@@ -28,11 +28,11 @@ returns-3 c =
     (numbers-gap _ _ none (c .before .before .if1 .left) again (c .before .if2 .left) (c .before .before .before .first-gap .ensures) (c .if3 .taken), refl)
 
 write-turns-requires : tie.Need-write-turns-requires
-unfolding numbersOf
+unfolding numberLists
 write-turns-requires c κs = search needs
 
 returns-4 : tie.Need-returns-4
-unfolding numbersOf
+unfolding numberLists
 returns-4 c =
     let none = c .before .before .before .before .before .before .before .before .before .before .before .before .before .before .before .before .first-without .ensures in
     let again = c .before .before .before .before .before .before .before .before .before .before .before .before .before .first-again .ensures in

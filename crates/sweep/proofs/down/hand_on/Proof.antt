@@ -3,7 +3,7 @@ use borrow.Author.Needs.{needs}
 use Rattle.sheet.proofs.Signed.{read-back}
 use Rattle.sweep.proofs.Handing.{read-answer, read-given}
 use mathlib.Core.Path.{sym, _∙_}
-use Rattle.journal.specs.Layout.{readRecord}
+use Rattle.journal.specs.Layout.{recordAt}
 use Rattle.sweep.proofs.down.hand_on.Statement.{statement}
 use Rattle.sweep.proofs.down.hand_on.Tie as tie
 
@@ -25,7 +25,7 @@ returns c =
     let name = c₁₆ .name-at .ensures .0 in
     let polygon = rw (name, c₁₃ .polygon-of .ensures .0) at (c₇ .answer .ensures) in
     let sequence = rw (name, c₃ .natural-sum .ensures, read-back (z .result) (z .ok), read-back (o .result) (o .ok), z .ensures, o .ensures) at (c₂ .answer2 .ensures) in
-    λ n. read-answer (g .rows .now) (g .polygons .now) (g .sequences .now) n (readRecord (g .journal .now) (g .k)) (g .r)
+    λ n. read-answer (g .rows .now) (g .polygons .now) (g .sequences .now) n (recordAt (g .journal .now) (g .k)) (g .r)
     (sym (c₁₀ .level-at .ensures) ∙ c₉ .if1 .taken) polygon sequence
 
 returns-2 : tie.Need-returns-2
@@ -44,7 +44,7 @@ returns-2 c =
     let o = c₁₀ .offset-at in
     let s = c₂ .narrow-sum in
     let value = rw (read-back (s .result) (s .ok), s .ensures, read-back (z .result) (z .ok), read-back (o .result) (o .ok), z .ensures, o .ensures) at (c₁ .give .ensures) in
-    λ n. read-given (g .rows .now) (g .polygons .now) (g .sequences .now) n (readRecord (g .journal .now) (g .k)) (g .r)
+    λ n. read-given (g .rows .now) (g .polygons .now) (g .sequences .now) n (recordAt (g .journal .now) (g .k)) (g .r)
     (λ e. c₄ .if1 .left (c₅ .level-at .ensures ∙ e)) (rw (c₁₁ .name-at .ensures .0, c₈ .polygon-of .ensures .0) at value)
 
 pub hand-on-spec : {M : Type 1} → statement M

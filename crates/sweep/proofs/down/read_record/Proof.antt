@@ -3,7 +3,7 @@ use borrow.Author.Needs.{needs}
 use native.Mathlib.Omega.{arith}
 use Rattle.sheet.proofs.Signed.{read-back}
 use Rattle.sweep.proofs.Handing.{read-closing, read-chain}
-use Rattle.journal.specs.Layout.{readRecord}
+use Rattle.journal.specs.Layout.{recordAt}
 use Rattle.sweep.proofs.down.read_record.Statement.{statement}
 use Rattle.sweep.proofs.down.read_record.Tie as tie
 
@@ -19,7 +19,7 @@ returns c =
     let o = c₃ .offset-at in
     let given = rw (c₄ .name-at .ensures .0, read-back (o .result) (o .ok), o .ensures) at (c₁ .give .ensures) in
     let e =
-    read-closing (g .rows .now) (g .polygons .now) (g .sequences .now) (g .count) (readRecord (g .journal .now) (g .k))
+    read-closing (g .rows .now) (g .polygons .now) (g .sequences .now) (g .count) (recordAt (g .journal .now) (g .k))
     (rw (c₅ .enum-told .given .1) at (c₇ .chain-at .ensures .0)) (rw (o .ensures) at (o .ok)) given in
     (e, omega arith)
 
@@ -34,7 +34,7 @@ returns-2 c =
     let c₁₅ = c₁₂ .before .before .before in
     let g = c₁₅ .args in
     let chain = rw (c₁₀ .r .given .1) at (c₁₂ .chain-at .ensures .0) in
-    (read-chain _ _ (readRecord (g .journal .now) (g .k)) chain (c₅ .hand-on .ensures (g .count)), omega arith)
+    (read-chain _ _ (recordAt (g .journal .now) (g .k)) chain (c₅ .hand-on .ensures (g .count)), omega arith)
 
 pub read-record-spec : {M : Type 1} → statement M
 read-record-spec =

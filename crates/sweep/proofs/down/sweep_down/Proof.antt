@@ -5,7 +5,7 @@ use Prim.Native.Nat.{_+_, _≤_}
 use mathlib.Core.Path.{_≡_, refl, sym, _∙_}
 use lib.ListN.{length}
 use Rattle.steps.specs.SweepDown.{sweepDown}
-use Rattle.journal.specs.Layout.{slices}
+use Rattle.journal.specs.Layout.{recordSlice}
 use Rattle.sweep.specs.Lookup.{tables, reading}
 use Rattle.sweep.proofs.Handing.{down-more, down-none}
 use Rattle.sweep.proofs.down.sweep_down.Statement.{statement}
@@ -17,7 +17,7 @@ Inv-loop journal records rows₀ polygons₀ sequences₀ count₀ k₀ rows pol
     × (length rows ≡ length rows₀)
     × (length polygons ≡ length polygons₀)
     × (length sequences ≡ length sequences₀)
-    × (sweepDown tables slices journal k (reading rows polygons sequences count) ≡ sweepDown tables slices journal records (reading rows₀ polygons₀ sequences₀ 0))
+    × (sweepDown tables recordSlice journal k (reading rows polygons sequences count) ≡ sweepDown tables recordSlice journal records (reading rows₀ polygons₀ sequences₀ 0))
 
 abbrev μ-loop : tie.MeasureT-loop
 μ-loop journal records rows₀ polygons₀ sequences₀ count₀ k₀ rows polygons sequences count k = k

@@ -12,7 +12,7 @@ use Rattle.steps.specs.SweepUp as up
 use Rattle.rows.specs.Layout.{HasRow}
 use Rattle.rows.proofs.Searching.{found-there, found-level}
 use Rattle.rows.proofs.Marking.{marked-freed}
-use Rattle.sweep.specs.Slices.{roomOf, edgeOf}
+use Rattle.sweep.specs.Slices.{lentRoom, edgeOf}
 use Rattle.sweep.proofs.Rooms.{lowest-is}
 use Rattle.sweep.proofs.Ways.{up-unfinished, up-stopped, up-freed, both-one, both-stopped, both-passed, row-stopped, row-unmet, row-met, treat-closed, treat-none-left, Searched, treat-found, treat-no-row, treat-opened}
 use Rattle.sweep.proofs.Marks.{marked-by, closing-peak, opened-level, marked-met}
@@ -284,7 +284,7 @@ pass-up-returns t c =
     let c₁ = c .before in
     let c₄ = c₁ .before .before .before in
     let g = c₄ .args in
-    (up-unfinished (g .rows .now) (g .journal .now) (up.treat (roomOf (g .rows .now) (g .journal .now)) (g .left - 1) (g .level + 1)) (g .s) (g .r) (c₁ .both-finished .ensures) (not-true _ (c .if1 .taken)), c₄ .pre .1 .1)
+    (up-unfinished (g .rows .now) (g .journal .now) (up.treat (lentRoom (g .rows .now) (g .journal .now)) (g .left - 1) (g .level + 1)) (g .s) (g .r) (c₁ .both-finished .ensures) (not-true _ (c .if1 .taken)), c₄ .pre .1 .1)
 
 pass-up-treat-requires : (t : ℕ) → pass-up-lts.Need-treat-requires (pass-up-calls t) (pass-up-at t) pass-up.Post
 pass-up-treat-requires t c κs =
@@ -302,7 +302,7 @@ pass-up-returns-2 t c =
     let c₁₃ = c₁₂ .before in
     let c₁₆ = c₁₃ .before .before .before in
     let g = c₁₆ .args in (
-      up-stopped (g .rows .now) (g .journal .now) (up.treat (roomOf (g .rows .now) (g .journal .now)) (g .left - 1) (g .level + 1)) (g .s) (g .r) (c₁₃ .both-finished .ensures) (not-false _ (c₁₂ .if1 .left))
+      up-stopped (g .rows .now) (g .journal .now) (up.treat (lentRoom (g .rows .now) (g .journal .now)) (g .left - 1) (g .level + 1)) (g .s) (g .r) (c₁₃ .both-finished .ensures) (not-false _ (c₁₂ .if1 .left))
           (c₁₀ .as-edge .ensures .0) (c₆ .treat .ensures .0) (sym (c₁ .is-done .ensures) ∙ not-true _ (c .if2 .taken)),
       c₆ .treat .ensures .1,
     )
@@ -325,7 +325,7 @@ pass-up-returns-3 t c =
     let c₁₉ = c₁₆ .before .before .before in
     let g = c₁₉ .args in
     let has : HasRow (c₉ .treat .last .0) (g .r) = omega (arith, c₁₉ .pre .1 .0 .0, c₉ .treat .kept .0) in (
-      up-freed (g .rows .now) (g .journal .now) (up.treat (roomOf (g .rows .now) (g .journal .now)) (g .left - 1) (g .level + 1)) (g .s) (g .r) (c₁₆ .both-finished .ensures) (not-false _ (c₁₅ .if1 .left))
+      up-freed (g .rows .now) (g .journal .now) (up.treat (lentRoom (g .rows .now) (g .journal .now)) (g .left - 1) (g .level + 1)) (g .s) (g .r) (c₁₆ .both-finished .ensures) (not-false _ (c₁₅ .if1 .left))
           (c₁₃ .as-edge .ensures .0) (c₉ .treat .ensures .0) (sym (c₄ .is-done .ensures) ∙ not-false _ (c₃ .if2 .left)) (c₁ .free-row .ensures),
       rw (c₁ .free-row .ensures) (marked-freed (c₉ .treat .ensures .1) (g .r) has),
     )

@@ -9,7 +9,7 @@ use lib.ListN.{length}
 use borrow.Author.Tests.{not-true, not-false}
 use Rattle.steps.specs.SweepUp.{sweepUp, start}
 use Rattle.rows.specs.Marks.{Marked}
-use Rattle.sweep.specs.Slices.{roomOf, edgesOf, swept, isDone}
+use Rattle.sweep.specs.Slices.{lentRoom, listEdges, swept, isDone}
 use Rattle.sweep.proofs.Sweeping.{next-edge, sweep-stays, records-there}
 use Rattle.sweep.specs.declared.Swept.{Swept}
 use Rattle.sweep.proofs.up.sweep_up.Statement.{statement}
@@ -20,7 +20,7 @@ Inv-loop edges n journal₀ rows₀ s₀ marks₀ edge₀ i₀ journal rows s ma
     (i ≤ n)
     × (length rows ≡ length rows₀)
     × (length journal ≡ length journal₀)
-    × (swept rows journal (record { progress = s; edge = edge }) ≡ sweepUp (roomOf rows₀ journal₀) (edgesOf edges) (start rows₀ journal₀) i)
+    × (swept rows journal (record { progress = s; edge = edge }) ≡ sweepUp (lentRoom rows₀ journal₀) (listEdges edges) (start rows₀ journal₀) i)
     × (isDone (s .end) ≡ true)
     × Marked marks rows (s .peak)
 
@@ -37,13 +37,13 @@ treated : (c : tie.After-treat Inv-loop μ-loop) →
     let c₆ = c .before .before .before .before .before .before in
     let g = c₆ .before .args in
     swept (t .last .0) (t .last .1 .0) (record { progress = t .result; edge = c₆ .loop .i })
-    ≡ sweepUp (roomOf (g .rows .now) (g .journal .now)) (edgesOf (g .edges .now)) (start (g .rows .now) (g .journal .now)) (c₆ .loop .i + 1)
+    ≡ sweepUp (lentRoom (g .rows .now) (g .journal .now)) (listEdges (g .edges .now)) (start (g .rows .now) (g .journal .now)) (c₆ .loop .i + 1)
 treated c =
     let c₁ = c .before in
     let c₆ = c₁ .before .before .before .before .before in
     let g = c₆ .before .args in
     let l = c₆ .loop in
-    next-edge (g .rows .now) (g .journal .now) (edgesOf (g .edges .now)) (l .i) {w = record { progress = l .s; edge = l .edge }} (l .inv .3) (l .inv .4) (l .inv .1) (l .inv .2)
+    next-edge (g .rows .now) (g .journal .now) (listEdges (g .edges .now)) (l .i) {w = record { progress = l .s; edge = l .edge }} (l .inv .3) (l .inv .4) (l .inv .1) (l .inv .2)
     (c₁ .list-edge .ensures .0) {p = c .treat .result} (c .treat .ensures .0)
 
 returns : tie.Need-returns Inv-loop μ-loop
@@ -55,9 +55,9 @@ returns c =
     let g = c₁₀ .before .before .args in
     let w : Swept = record { progress = c₅ .treat .result; edge = l .i } in
     let e =
-    sweep-stays (g .rows .now) (g .journal .now) (edgesOf (g .edges .now)) (g .n) (l .i + 1) {w = w} (omega (arith, c₁₀ .loop-test .taken)) (treated c₅)
+    sweep-stays (g .rows .now) (g .journal .now) (listEdges (g .edges .now)) (g .n) (l .i + 1) {w = w} (omega (arith, c₁₀ .loop-test .taken)) (treated c₅)
     (sym (c₁ .is-done .ensures) ∙ not-true _ (c .if1 .taken)) in
-    (e, records-there (g .rows .now) (g .journal .now) (edgesOf (g .edges .now)) (g .n) w e)
+    (e, records-there (g .rows .now) (g .journal .now) (listEdges (g .edges .now)) (g .n) w e)
 
 loop-again : tie.Need-loop-again Inv-loop μ-loop
 loop-again c =
@@ -77,7 +77,7 @@ returns-2 c =
     let w : Swept = record { progress = l .s; edge = l .edge } in
     let z : l .i ≡ g .n = omega arith in
     let e = rw z at (l .inv .3) in
-    (e, records-there (g .rows .now) (g .journal .now) (edgesOf (g .edges .now)) (g .n) w e)
+    (e, records-there (g .rows .now) (g .journal .now) (listEdges (g .edges .now)) (g .n) w e)
 
 pub sweep-up-spec : {M : Type 1} → statement M
 sweep-up-spec =
