@@ -18,7 +18,7 @@ use Rattle.steps.specs.SweepUp as up
 use Rattle.steps.specs.SweepUp.{State, hasTip, signed, mostLength}
 use Rattle.steps.specs.Plain as plain
 use Rattle.steps.specs.Plain.{plainTable, plainJournal, newRow, freeRow}
-use Rattle.hartley.specs.Swept.{placesOf, plainRoom}
+use Rattle.steps.specs.Swept.{placesOf, plainRoom}
 use Rattle.laws.proofs.Lowest.{lowest-is}
 use Rattle.hartley.proofs.Down.{Rec, put, close, ofRow, nameAt}
 use Rattle.hartley.proofs.Reading.{recs, recs-written}
@@ -32,7 +32,7 @@ abbrev pub Work : Type 0
 Work = State (ℕ → Row ℕ) (ℕ → Record)
 
 abbrev pub tableOf : Work → Table
-tableOf s = view (s .rows) (s .peak)
+tableOf s = view (s .rows) (s .reach)
 
 abbrev pub journalOf : Work → List Rec
 journalOf s = recs (s .journal) (s .records)
@@ -42,17 +42,17 @@ module _ (sh : Drawing) (n m : ℕ) where
   room = plainRoom sh n m
 
   -- steps 1 and 4
-  pub find-at : (s : Work) (level : ℕ) (side : Side) (p r : ℕ) → up.find room s level side p ≡ At r → (r < s .peak) × HasTip (tableOf s) side level p r
+  pub find-at : (s : Work) (level : ℕ) (side : Side) (p r : ℕ) → up.find room s level side p ≡ At r → (r < s .reach) × HasTip (tableOf s) side level p r
   unfolding up.find plainTable
   find-at s level side p r e =
-      let f = found-at (λ r. hasTip (placesOf sh) level side p (s .rows r)) (s .peak) r e in
-      (f .0, tip-of sh (s .rows) (s .peak) level p side r (f .0) (f .1))
+      let f = found-at (λ r. hasTip (placesOf sh) level side p (s .rows r)) (s .reach) r e in
+      (f .0, tip-of sh (s .rows) (s .reach) level p side r (f .0) (f .1))
 
   pub find-none : (s : Work) (level : ℕ) (side : Side) (p : ℕ) → up.find room s level side p ≡ Nothing → (r : ℕ) → HasTip (tableOf s) side level p r → ⊥
   unfolding up.find plainTable
   find-none s level side p e r t =
-      let h = tip-to sh (s .rows) (s .peak) level p side r t in
-      let f = found-none (λ r. hasTip (placesOf sh) level side p (s .rows r)) (s .peak) e r (h .0) in
+      let h = tip-to sh (s .rows) (s .reach) level p side r t in
+      let f = found-none (λ r. hasTip (placesOf sh) level side p (s .rows r)) (s .reach) e r (h .0) in
       not-both (h .1) f
 
   -- the lowest free row opened
@@ -65,27 +65,27 @@ module _ (sh : Drawing) (n m : ℕ) where
 
     pub record Opened : Type 0 where
       pub free : tableOf s r .used ≡ false
-      pub below : r < s₁ .peak
+      pub below : r < s₁ .reach
       pub table : tableOf s₁ ≡ plain.put (tableOf s) r (newRow level p)
-      -- the peak is raised by one where all rows below it are in use, and only there
-      pub peak : ((r < s .peak) × (s₁ .peak ≡ s .peak)) ⊎ ((r ≡ s .peak) × (s₁ .peak ≡ suc (s .peak)) × ((x : ℕ) → x < s .peak → s .rows x .used ≡ true))
+      -- the reach is raised by one where all rows within it are in use, and only there
+      pub reach : ((r < s .reach) × (s₁ .reach ≡ s .reach)) ⊎ ((r ≡ s .reach) × (s₁ .reach ≡ suc (s .reach)) × ((x : ℕ) → x < s .reach → s .rows x .used ≡ true))
 
     pub open-is : Opened
-    unfolding up.open-row up.lowestFree up.inUse plainTable
+    unfolding up.open-row up.lowestFree plainTable
     open-is = ⊎-elim
         (λ h. record {
-          free = ap (λ (v : Row ℕ). v .used) (view-in (s .rows) (s .peak) _ (h .0)) ∙ h .1;
+          free = ap (λ (v : Row ℕ). v .used) (view-in (s .rows) (s .reach) _ (h .0)) ∙ h .1;
           below = omega (arith, h .0, h .2);
-          table = view-opened (s .rows) (s .peak) _ (newRow level p) _ (omega (arith, h .0, h .2)) (λ x d. (λ l. omega (arith, h .2), λ l. omega (arith, h .2)));
-          peak = inl (h .0, h .2);
+          table = view-opened (s .rows) (s .reach) _ (newRow level p) _ (omega (arith, h .0, h .2)) (λ x d. (λ l. omega (arith, h .2), λ l. omega (arith, h .2)));
+          reach = inl (h .0, h .2);
         })
         (λ h. record {
-          free = view-above (s .rows) (s .peak) _ (omega (arith, h .0));
+          free = view-above (s .rows) (s .reach) _ (omega (arith, h .0));
           below = omega (arith, h .0, h .1);
-          table = view-opened (s .rows) (s .peak) _ (newRow level p) _ (omega (arith, h .0, h .1)) (λ x d. (λ l. omega (arith, h .1), λ l. omega (arith, h .0, h .1, d)));
-          peak = inr h;
+          table = view-opened (s .rows) (s .reach) _ (newRow level p) _ (omega (arith, h .0, h .1)) (λ x d. (λ l. omega (arith, h .1), λ l. omega (arith, h .0, h .1, d)));
+          reach = inr h;
         })
-        (lowest-is (λ x. s .rows x .used) (s .peak))
+        (lowest-is (λ x. s .rows x .used) (s .reach))
 
     pub open-journal : (s₁ .journal ≡ s .journal) × (s₁ .records ≡ s .records) × (s₁ .end ≡ s .end)
     unfolding up.open-row
@@ -103,7 +103,7 @@ module _ (sh : Drawing) (n m : ℕ) where
         both : {x y : Bool} → x ≡ true → y ≡ true → (x && y) ≡ true
         both p q = rw (p, q)
 
-    pub attached-rest : (attached .peak ≡ s .peak) × (attached .records ≡ s .records + 1) × (attached .end ≡ s .end)
+    pub attached-rest : (attached .reach ≡ s .reach) × (attached .records ≡ s .records + 1) × (attached .end ≡ s .end)
     unfolding up.move up.write
     attached-rest = (refl, refl, refl)
 
@@ -111,9 +111,9 @@ module _ (sh : Drawing) (n m : ℕ) where
     unfolding up.move up.write plainTable plainJournal
     attached-record = refl
 
-    pub attached-table : r < s .peak → tableOf attached ≡ lengthened side (tableOf s) r e
+    pub attached-table : r < s .reach → tableOf attached ≡ lengthened side (tableOf s) r e
     unfolding up.move up.write plainTable
-    attached-table l = view-lengthened (s .rows) (s .peak) side r e l
+    attached-table l = view-lengthened (s .rows) (s .reach) side r e l
 
     pub attached-journal : journalOf attached ≡ put (nameAt level (e .name)) r (signed side (on side (tableOf s r .branch) .length + on (otherSide side) (e .length))) ∷ journalOf s
     unfolding up.move up.write plainTable plainJournal view
@@ -124,19 +124,19 @@ module _ (sh : Drawing) (n m : ℕ) where
     abbrev pub joined : Work
     joined = up.finish room (up.finish room s q (otherSide side)) r side
 
-    pub joined-rest : (joined .journal ≡ s .journal) × (joined .peak ≡ s .peak) × (joined .records ≡ s .records) × (joined .end ≡ s .end)
+    pub joined-rest : (joined .journal ≡ s .journal) × (joined .reach ≡ s .reach) × (joined .records ≡ s .records) × (joined .end ≡ s .end)
     unfolding up.finish
     joined-rest = (refl, refl, refl, refl)
 
-    pub joined-table : r < s .peak → q < s .peak → tableOf joined ≡ matched side (tableOf s) r q
+    pub joined-table : r < s .reach → q < s .reach → tableOf joined ≡ matched side (tableOf s) r q
     unfolding up.finish plainTable
-    joined-table lr lq = view-matched (s .rows) (s .peak) side r q lr lq
+    joined-table lr lq = view-matched (s .rows) (s .reach) side r q lr lq
 
-  pub free-table : (s : Work) (r : ℕ) → r < s .peak → tableOf (up.free room s r) ≡ plain.put (tableOf s) r (freeRow (tableOf s r))
+  pub free-table : (s : Work) (r : ℕ) → r < s .reach → tableOf (up.free room s r) ≡ plain.put (tableOf s) r (freeRow (tableOf s r))
   unfolding up.free plainTable
-  free-table s r l = view-freed (s .rows) (s .peak) r l
+  free-table s r l = view-freed (s .rows) (s .reach) r l
 
-  pub free-rest : (s : Work) (r : ℕ) → (up.free room s r .journal ≡ s .journal) × (up.free room s r .peak ≡ s .peak) × (up.free room s r .records ≡ s .records) × (up.free room s r .end ≡ s .end)
+  pub free-rest : (s : Work) (r : ℕ) → (up.free room s r .journal ≡ s .journal) × (up.free room s r .reach ≡ s .reach) × (up.free room s r .records ≡ s .records) × (up.free room s r .end ≡ s .end)
   unfolding up.free
   free-rest s r = (refl, refl, refl, refl)
 
@@ -149,7 +149,7 @@ module _ (sh : Drawing) (n m : ℕ) where
     unfolding up.close
     close-is a = ap (λ t. up.pickState t closed (up.ended Overrun s)) (lt-ltb _ _ a)
 
-    pub closed-rest : (tableOf closed ≡ tableOf s) × (closed .peak ≡ s .peak) × (closed .records ≡ s .records + 1) × (closed .end ≡ s .end)
+    pub closed-rest : (tableOf closed ≡ tableOf s) × (closed .reach ≡ s .reach) × (closed .records ≡ s .records + 1) × (closed .end ≡ s .end)
     unfolding up.write
     closed-rest = (refl, refl, refl, refl)
 

@@ -51,8 +51,8 @@ module _ (A : Setting) {p h : ℕ} (E : Time (plan A) p h) where
   pub record Inv (s : Work) (B : Naming) (G : Paths) : Type 0 where
     pub state : State sh p h (A .rows) (tableOf s) (journalOf s) B G
     pub held : (k : ℕ) → k < s .records → Held A (s .journal k) (recs (s .journal) k)
-    pub peak-rows : s .peak ≤ A .rows
-    pub peak-records : s .peak ≤ s .records
+    pub reach-rows : s .reach ≤ A .rows
+    pub reach-records : s .reach ≤ s .records
     pub is-done : s .end ≡ Done
     pub spare : A .rows < B .bound
 
@@ -74,16 +74,16 @@ module _ (A : Setting) {p h : ℕ} (E : Time (plan A) p h) where
     -- the row of step 1
     pub record Slotted (s₁ : Work) (r : ℕ) : Type 0 where
       pub slot : Slot k (tableOf s) side level (bottom side e) r (tableOf s₁)
-      pub below : r < s₁ .peak
+      pub below : r < s₁ .reach
       pub short : on side (s₁ .rows r .branch) .length ≤ A .sheet .edges
-      pub inside : s₁ .peak ≤ k
+      pub inside : s₁ .reach ≤ k
       pub journal-same : s₁ .journal ≡ s .journal
       pub records-same : s₁ .records ≡ s .records
 
     pub slot-journal : {s₁ : Work} {r : ℕ} → Slotted s₁ r → journalOf s₁ ≡ journalOf s
     slot-journal L = rw (L .journal-same, L .records-same)
 
-    pub found-slot : (r : ℕ) → up.find room s level side (bottom side e) ≡ At r → s .peak ≤ k → Slotted s r
+    pub found-slot : (r : ℕ) → up.find room s level side (bottom side e) ≡ At r → s .reach ≤ k → Slotted s r
     found-slot r q l =
         let f = find-at (A .sheet) (A .rows) (A .records) s level side (bottom side e) r q in
         record { slot = found r (f .1); below = f .0; short = short-end (f .0) (f .1); inside = l; journal-same = refl; records-same = refl }
@@ -92,20 +92,20 @@ module _ (A : Setting) {p h : ℕ} (E : Time (plan A) p h) where
         by-size Rising y = unfold size in omega arith
         by-size Falling y = unfold size in omega arith
 
-        short-end : r < s .peak → HasTip (tableOf s) side level (bottom side e) r → on side (s .rows r .branch) .length ≤ A .sheet .edges
+        short-end : r < s .reach → HasTip (tableOf s) side level (bottom side e) r → on side (s .rows r .branch) .length ≤ A .sheet .edges
         short-end m t =
             let o = I .tab .of-live (B .now r) (I .tab .to-live r (t .used) side (t .unfinished)) in
             let nm = I .tab .own r (omega (arith, I .tab .below r (t .used), I .tab .bounded)) .0 in
-            omega (arith, ap (λ (v : Row ℕ). on side (v .branch) .length) (view-in (s .rows) (s .peak) r m), ap (λ i. on side (tableOf s i .branch) .length) nm, o .length side, by-size side (row (B .now r)), size-small (I .frame .chain) (row (B .now r)))
+            omega (arith, ap (λ (v : Row ℕ). on side (v .branch) .length) (view-in (s .rows) (s .reach) r m), ap (λ i. on side (tableOf s i .branch) .length) nm, o .length side, by-size side (row (B .now r)), size-small (I .frame .chain) (row (B .now r)))
 
-    pub opened-slot : up.find room s level side (bottom side e) ≡ Nothing → up.lowestFree room s < k → up.open-row room s (up.lowestFree room s) level (bottom side e) .peak ≤ k
+    pub opened-slot : up.find room s level side (bottom side e) ≡ Nothing → up.lowestFree room s < k → up.open-row room s (up.lowestFree room s) level (bottom side e) .reach ≤ k
         → Slotted (up.open-row room s (up.lowestFree room s) level (bottom side e)) (up.lowestFree room s)
     opened-slot q l i =
         let J = open-journal (A .sheet) (A .rows) (A .records) s level (bottom side e) in
         record {
           slot = rw (O .table) (opened r l (λ i t. find-none (A .sheet) (A .rows) (A .records) s level side (bottom side e) q i t) (O .free));
           below = O .below;
-          short = omega (arith, ap (λ (v : Row ℕ). on side (v .branch) .length) (sym (view-in (s₁ .rows) (s₁ .peak) r (O .below)) ∙ ap (λ T. T r) (O .table) ∙ put-at (tableOf s) r r (newRow level (bottom side e)) refl), empty side);
+          short = omega (arith, ap (λ (v : Row ℕ). on side (v .branch) .length) (sym (view-in (s₁ .rows) (s₁ .reach) r (O .below)) ∙ ap (λ T. T r) (O .table) ∙ put-at (tableOf s) r r (newRow level (bottom side e)) refl), empty side);
           inside = i;
           journal-same = J .0;
           records-same = J .1;
@@ -133,7 +133,7 @@ module _ (A : Setting) {p h : ℕ} (E : Time (plan A) p h) where
       abbrev pub a : Work
       a = attached (A .sheet) (A .rows) (A .records) s₁ level side e r
 
-      pub a-rest : (a .peak ≡ s₁ .peak) × (a .records ≡ s₁ .records + 1) × (a .end ≡ s₁ .end)
+      pub a-rest : (a .reach ≡ s₁ .reach) × (a .records ≡ s₁ .records + 1) × (a .end ≡ s₁ .end)
       a-rest = attached-rest (A .sheet) (A .rows) (A .records) s₁ level side e r
 
       pub a-table : tableOf a ≡ lengthened side (tableOf s₁) r e
@@ -152,7 +152,7 @@ module _ (A : Setting) {p h : ℕ} (E : Time (plan A) p h) where
       pub b-journal : (q : ℕ) → journalOf (b q) ≡ journalOf a
       b-journal q = let J = joined-rest (A .sheet) (A .rows) (A .records) a side q r in rw (J .0, J .2)
 
-      pub b-table : (q : ℕ) → q < a .peak → tableOf (b q) ≡ matched side (tableOf a) r q
+      pub b-table : (q : ℕ) → q < a .reach → tableOf (b q) ≡ matched side (tableOf a) r q
       b-table q l = joined-table (A .sheet) (A .rows) (A .records) a side q r (omega (arith, L .below, a-rest .0)) l
 
       abbrev pub H : Paths
@@ -161,7 +161,7 @@ module _ (A : Setting) {p h : ℕ} (E : Time (plan A) p h) where
       -- step 4: no row met, or one whose tip is there
       pub data Met : Found → Type 0 where
         none : State sh p h k (tableOf a) (journalOf a) B H → Met Nothing
-        some : (q : ℕ) → q < a .peak → HasTip (lengthened side (tableOf s₁) r e) (otherSide side) level (top side e) q → sh .list .apart (top side e) ≡ false → Met (At q)
+        some : (q : ℕ) → q < a .reach → HasTip (lengthened side (tableOf s₁) r e) (otherSide side) level (top side e) q → sh .list .apart (top side e) ≡ false → Met (At q)
 
       met-none : ((q : ℕ) → sh .list .apart (top side e) ≡ false → HasTip (tableOf a) (otherSide side) level (top side e) q → ⊥) → Met Nothing
       met-none clear = none (rw (a-table, a-journal) (lone N k E I P C side goes r (L .slot) (λ q o t. clear q o (rw a-table t))))
@@ -177,7 +177,7 @@ module _ (A : Setting) {p h : ℕ} (E : Time (plan A) p h) where
           by false o (At i) q = let f = find-at (A .sheet) (A .rows) (A .records) a level (otherSide side) (top side e) i q in some i (f .0) (subst (λ T. HasTip T (otherSide side) level (top side e) i) a-table (f .1)) o
 
       -- the state after a match, whether its rows are passed up or not
-      pub state-joined : (q : ℕ) (l : q < a .peak) (w : HasTip (lengthened side (tableOf s₁) r e) (otherSide side) level (top side e) q) (o : sh .list .apart (top side e) ≡ false) → State sh p h k (tableOf (b q)) (journalOf (b q)) B H
+      pub state-joined : (q : ℕ) (l : q < a .reach) (w : HasTip (lengthened side (tableOf s₁) r e) (otherSide side) level (top side e) q) (o : sh .list .apart (top side e) ≡ false) → State sh p h k (tableOf (b q)) (journalOf (b q)) B H
       state-joined q l w o = rw (b-table q l ∙ ap (λ T. matched side T r q) a-table, b-journal q, a-journal) (state-met N k E I P C side goes r (L .slot) q w o)
 
       guarded : s₁ .records < A .records → up.attach room s₁ level side e r ≡ a

@@ -45,9 +45,9 @@ module _ (A : Setting) where
     pub closed : (e : ℕ) → e < A .sheet .edges → (k : ℕ) × (i : ℕ) × (paths .spot e ≡ out k i)
     pub count-is : closes (journalOf s) ≡ paths .rounds .count
     pub few : s .records + closes (journalOf s) ≤ 2 * A .sheet .edges
-    pub peak-rows : s .peak ≤ A .rows
-    pub peak-records : s .peak ≤ s .records
-    pub free : (r : ℕ) → r < s .peak → s .rows r .used ≡ false
+    pub reach-rows : s .reach ≤ A .rows
+    pub reach-records : s .reach ≤ s .records
+    pub free : (r : ℕ) → r < s .reach → s .rows r .used ≡ false
     pub held : (k : ℕ) → k < s .records → Held A (s .journal k) (recs (s .journal) k)
 
   module _ (i : ℕ) (l : i < A .sheet .edges) (last : suc i ≡ A .sheet .edges) (s : Work) (B : Naming) (G : Paths) (Q : Past A i l s B G) where
@@ -63,9 +63,9 @@ module _ (A : Setting) where
     dead : (r : ℕ) → 0 < size G (row r) → ⊥
     dead r = none-live N (time N i l) (Q .inv .state) all-gone (Q .clean .whole) (row r)
 
-    all-free : (r : ℕ) → r < s .peak → s .rows r .used ≡ false
+    all-free : (r : ℕ) → r < s .reach → s .rows r .used ≡ false
     all-free r m = ⊎-elim
-        (λ u. absurd (⊎-elim (dead (B .now r)) (λ d. omega (arith, Q .clean .idle r (used-view (s .rows) (s .peak) r m u) (omega arith))) (lt-or-le 0 (size G (row (B .now r))))))
+        (λ u. absurd (⊎-elim (dead (B .now r)) (λ d. omega (arith, Q .clean .idle r (used-view (s .rows) (s .reach) r m u) (omega arith))) (lt-or-le 0 (size G (row (B .now r))))))
         (λ u. u)
         (true-or-false (s .rows r .used))
 
@@ -80,15 +80,15 @@ module _ (A : Setting) where
       closed = closed-all N (time N i l) (Q .inv .state) all-gone (Q .clean .whole);
       count-is = Q .inv .state .shuts;
       few = omega (arith, records-small (Q .inv .state) (A .sheet .edges) (omega (arith, Q .listed-is)), records-recs (s .journal) (s .records));
-      peak-rows = Q .inv .peak-rows;
-      peak-records = Q .inv .peak-records;
+      reach-rows = Q .inv .reach-rows;
+      reach-records = Q .inv .reach-records;
       free = all-free;
       held = Q .inv .held;
     }
 
   -- the list is empty
   module _ (t : ℕ → Row ℕ) (j : ℕ → Record) where
-    empty : A .sheet .edges ≡ 0 → Finished (start t j)
+    empty : A .sheet .edges ≡ 0 → Finished (start 0 t j)
     empty z = record {
       names = unborn (A .rows);
       paths = init.start (A .sheet .edges);
@@ -99,14 +99,14 @@ module _ (A : Setting) where
       closed = λ e l. absurd (omega arith);
       count-is = I .shuts;
       few = omega (arith, records-small I 0 (omega (arith, ap listed (no-records A t j), unlisted)), records-recs j 0);
-      peak-rows = omega arith;
-      peak-records = omega arith;
+      reach-rows = omega arith;
+      reach-records = omega arith;
       free = λ r l. absurd (omega arith);
       held = λ k l. absurd (omega arith);
     }
       where
-        I : State sh 0 1 (A .rows) (tableOf (start t j)) (journalOf (start t j)) (unborn (A .rows)) (init.start (A .sheet .edges))
-        I = rw (no-records A t j) (begin sh N 0 (A .rows) (tableOf (start t j)) (no-rows A t j))
+        I : State sh 0 1 (A .rows) (tableOf (start 0 t j)) (journalOf (start 0 t j)) (unborn (A .rows)) (init.start (A .sheet .edges))
+        I = rw (no-records A t j) (begin sh N 0 (A .rows) (tableOf (start 0 t j)) (no-rows A t j))
 
         unlisted : listed [] ≡ 0
         unlisted = unfold listed in refl

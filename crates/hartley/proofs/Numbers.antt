@@ -13,8 +13,8 @@ use Rattle.sheet.specs.Edges.{topHeight}
 use Rattle.sheet.specs.Joining.{Follows}
 use Rattle.sheet.specs.Numbering.{Numbering}
 use Rattle.sheet.proofs.Checked.{joins}
-use Rattle.steps.specs.SweepDown.{Pair, Reading}
-use Rattle.hartley.specs.Swept.{readDown, natural}
+use Rattle.steps.specs.SweepDown.{naturalPart, Pair, Reading}
+use Rattle.hartley.specs.Swept.{readDown}
 use Rattle.steps.specs.declared.Side.the-variants.{Falling}
 use Rattle.hartley.proofs.Plan.{Plan, Lawful, uneven, height, Climbs}
 use Rattle.hartley.proofs.Down.{ofEdge, eval}
@@ -61,7 +61,7 @@ module _ (A : Setting) (s : Work) (F : Finished A s) (table answers : ℕ → Pa
   polygon e = read .answers e .polygon
 
   abbrev sequence : ℕ → ℕ
-  sequence e = natural (read .answers e .sequence)
+  sequence e = naturalPart (read .answers e .sequence)
 
   abbrev O : Outs sh (F .moment) (F .paths)
   O = F .outs
@@ -78,7 +78,8 @@ module _ (A : Setting) (s : Work) (F : Finished A s) (table answers : ℕ → Pa
   polygon-is e k i q = ap (λ v. v .polygon) (answer-is e k i (O .real e k i q) q) ∙ omega arith
 
   sequence-is : (e k i : ℕ) → F .paths .spot e ≡ out k i → sequence e ≡ i
-  sequence-is e k i q = ap (λ v. natural (v .sequence)) (answer-is e k i (O .real e k i q) q)
+  unfolding naturalPart
+  sequence-is e k i q = ap (λ v. naturalPart (v .sequence)) (answer-is e k i (O .real e k i q) q)
 
   polygons-are : read .polygons ≡ F .paths .rounds .count
   polygons-are = polygons-law (s .journal) (s .records) _ ∙ omega (arith, F .count-is)

@@ -11,7 +11,7 @@ use Rattle.sheet.proofs.Checked.{Checked}
 use Rattle.steps.specs.Rows as steps
 use Rattle.steps.specs.Rows.{Row, Chain, inRow, Record, Room}
 use Rattle.steps.specs.Plain as plain
-use Rattle.hartley.specs.Swept.{plainRoom}
+use Rattle.steps.specs.Swept.{plainRoom}
 use Rattle.hartley.proofs.Plan.{Plan, Lawful, planOf, lawful}
 use Rattle.hartley.proofs.Differences.{diff}
 use Rattle.hartley.proofs.Down.{Name, ofEdge, ofRow, nameAt, Rec, put, at, place}

@@ -15,7 +15,8 @@ use Rattle.steps.specs.declared.End.{End}
 use Rattle.steps.specs.declared.End.the-variants.{Done, NoFreeRow}
 use Rattle.steps.specs.Rows.{otherSide, on, Row, Record}
 use Rattle.steps.specs.SweepUp.{Sweep, start, sweepUp, treat, levels, nextEdge, bottom, top}
-use Rattle.hartley.specs.Swept.{edgeOf, sweptTo}
+use Rattle.steps.specs.Swept.{edgeOf}
+use Rattle.hartley.specs.Swept.{sweptTo}
 use Rattle.hartley.proofs.Plan.{Plan, Lawful, uneven, height, tip, Climbs}
 use Rattle.hartley.proofs.Down.{Rec}
 use Rattle.hartley.proofs.Reading.{recs}
@@ -208,8 +209,8 @@ module _ (A : Setting) where
     inv = record {
       state = advance (A .rows) (topOf sh i) (topOf sh (suc i)) i (tableOf s) (journalOf s) B G (omega (arith, N .order i (suc i) (omega arith) h, top-height N i l, top-height N (suc i) h)) (Q .gone i (omega arith)) (Q .clean) (Q .inv .state);
       held = Q .inv .held;
-      peak-rows = Q .inv .peak-rows;
-      peak-records = Q .inv .peak-records;
+      reach-rows = Q .inv .reach-rows;
+      reach-records = Q .inv .reach-records;
       is-done = Q .inv .is-done;
       spare = Q .inv .spare;
     };
@@ -221,16 +222,16 @@ module _ (A : Setting) where
 
   -- before the first edge, whatever the table and the journal hold
   module _ (t : ℕ → Row ℕ) (j : ℕ → Record) where
-    pub no-rows : (r : ℕ) → tableOf (start t j) r .used ≡ false
+    pub no-rows : (r : ℕ) → tableOf (start 0 t j) r .used ≡ false
     no-rows r = view-above t 0 r (omega arith)
 
-    pub no-records : journalOf (start t j) ≡ []
+    pub no-records : journalOf (start 0 t j) ≡ []
     unfolding recs
     no-records = refl
 
-    begun : (h : 0 < A .sheet .edges) → Before 0 h (start t j) (unborn (A .rows)) (init.start (A .sheet .edges))
+    begun : (h : 0 < A .sheet .edges) → Before 0 h (start 0 t j) (unborn (A .rows)) (init.start (A .sheet .edges))
     begun h = record {
-      inv = record { state = rw no-records (begin sh N (topOf sh 0) (A .rows) (tableOf (start t j)) no-rows); held = λ k l. absurd (omega arith); peak-rows = omega arith; peak-records = omega arith; is-done = refl; spare = omega arith };
+      inv = record { state = rw no-records (begin sh N (topOf sh 0) (A .rows) (tableOf (start 0 t j)) no-rows); held = λ k l. absurd (omega arith); reach-rows = omega arith; reach-records = omega arith; is-done = refl; spare = omega arith };
       clean = record { whole = λ r l w. absurd (not-both (w .used) (no-rows r)); idle = λ r u d. absurd (not-both u (no-rows r)) };
       waits = λ a l u. omega (arith, size-edge sh a u);
       gone = λ a l. absurd (omega arith);
@@ -245,7 +246,7 @@ module _ (A : Setting) where
 
     pub sweep-result : (i : ℕ) (l : i < A .sheet .edges) → Result i l (at (suc i) .state)
     unfolding sweepUp
-    sweep-result zero l = treated 0 l (start t j) (unborn (A .rows)) (init.start (A .sheet .edges)) (begun l)
+    sweep-result zero l = treated 0 l (start 0 t j) (unborn (A .rows)) (init.start (A .sheet .edges)) (begun l)
     sweep-result (suc i) l = by (sweep-result i (omega arith))
       where
         s′ : Work

@@ -80,11 +80,11 @@ module _ (A : Setting) {p h : ℕ} (E : Time (plan A) p h) where
     freed-outcome s q B X u lv s₂ (full e cr) = subst (After s q B X) (sym (afterwards s₂ s₂ (up.free room s₂ q) NoFreeRow e)) (full e cr)
     freed-outcome s q B X u lv s₂ (done B′ G′ I′ l K) = subst (After s q B X) (sym (afterwards s₂ s₂ (up.free room s₂ q) Done (I′ .is-done)))
         (done B′ G′
-        (record { state = rw (table, same-journal) (v .0); held = λ k m. rw (F .0) (I′ .held k (omega (arith, F .2))); peak-rows = omega (arith, F .1, I′ .peak-rows); peak-records = omega (arith, F .1, F .2, I′ .peak-records); is-done = F .3 ∙ I′ .is-done; spare = I′ .spare })
+        (record { state = rw (table, same-journal) (v .0); held = λ k m. rw (F .0) (I′ .held k (omega (arith, F .2))); reach-rows = omega (arith, F .1, I′ .reach-rows); reach-records = omega (arith, F .1, F .2, I′ .reach-records); is-done = F .3 ∙ I′ .is-done; spare = I′ .spare })
         (ap listed same-journal ∙ l)
         (rw table (rw lv at (v .1))))
       where
-        F : (up.free room s₂ q .journal ≡ s₂ .journal) × (up.free room s₂ q .peak ≡ s₂ .peak) × (up.free room s₂ q .records ≡ s₂ .records) × (up.free room s₂ q .end ≡ s₂ .end)
+        F : (up.free room s₂ q .journal ≡ s₂ .journal) × (up.free room s₂ q .reach ≡ s₂ .reach) × (up.free room s₂ q .records ≡ s₂ .records) × (up.free room s₂ q .end ≡ s₂ .end)
         F = free-rest (A .sheet) (A .rows) (A .records) s₂ q
 
         same-journal : journalOf (up.free room s₂ q) ≡ journalOf s₂
@@ -94,7 +94,7 @@ module _ (A : Setting) {p h : ℕ} (E : Time (plan A) p h) where
         in-use = ap (λ (v : Row ℕ). v .used) (K .rows q (record { used = u; level-le = omega (arith, lv) })) ∙ u
 
         table : tableOf (up.free room s₂ q) ≡ plain.put (tableOf s₂) q (freeRow (tableOf s₂ q))
-        table = free-table (A .sheet) (A .rows) (A .records) s₂ q (view-used (s₂ .rows) (s₂ .peak) q in-use .0)
+        table = free-table (A .sheet) (A .rows) (A .records) s₂ q (view-used (s₂ .rows) (s₂ .reach) q in-use .0)
 
         v : State sh p h (A .rows) (plain.put (tableOf s₂) q (freeRow (tableOf s₂ q))) (journalOf s₂) B′ G′ × Passed (suc (tableOf s q .level)) q (tableOf s) (plain.put (tableOf s₂) q (freeRow (tableOf s₂ q))) B B′ X G′
         v = passed-up N (A .rows) E q (tableOf s) (tableOf s₂) (journalOf s₂) B B′ X G′ u (I′ .state) (rw lv K)
@@ -105,7 +105,7 @@ module _ (A : Setting) {p h : ℕ} (E : Time (plan A) p h) where
     pass-outcome s q B X I u ready C few = by (bothFinished (s .rows q)) refl
       where
         seen : tableOf s q ≡ s .rows q
-        seen = view-in (s .rows) (s .peak) q (view-used (s .rows) (s .peak) q u .0)
+        seen = view-in (s .rows) (s .reach) q (view-used (s .rows) (s .reach) q u .0)
 
         by : (b : Bool) → bothFinished (s .rows q) ≡ b → After s q B X (up.pickState b (up.thenFree room (next s (asEdge q (s .rows q))) q) s)
         by false f = done B X I refl (skipped (λ w. let v : Whole (s .rows q) = rw seen at w in not-both (rw (v .finished Rising, v .finished Falling) refl) f) (suc level) X C)
@@ -170,14 +170,14 @@ module _ (A : Setting) {p h : ℕ} (E : Time (plan A) p h) where
     abbrev pub Ended : Work → Type 0
     Ended s′ = Outcome A E s′ (edgeBit (nameAt level (e .name)) + listed (journalOf s)) (λ B′ G′. Kept level y (tableOf s) (tableOf s′) B B′ G G′)
 
-    module _ (s₁ : Work) (r : ℕ) (L : Slotted A E n s B G level e (I .state) P C counted side goes s₁ r) (not-high : s₁ .peak ≤ s₁ .records + 1) (is-done : s₁ .end ≡ Done) where
+    module _ (s₁ : Work) (r : ℕ) (L : Slotted A E n s B G level e (I .state) P C counted side goes s₁ r) (not-high : s₁ .reach ≤ s₁ .records + 1) (is-done : s₁ .end ≡ Done) where
       abbrev a₁ : Work
       a₁ = attached (A .sheet) (A .rows) (A .records) s₁ level side e r
 
       abbrev X : Paths
       X = passing.H N n E (I .state) P C side goes r (L .slot)
 
-      rest : (a₁ .peak ≡ s₁ .peak) × (a₁ .records ≡ s₁ .records + 1) × (a₁ .end ≡ s₁ .end)
+      rest : (a₁ .reach ≡ s₁ .reach) × (a₁ .records ≡ s₁ .records + 1) × (a₁ .end ≡ s₁ .end)
       rest = a-rest A E n s B G level e (I .state) P C counted side goes s₁ r L
 
       table₁ : tableOf a₁ ≡ lengthened side (tableOf s₁) r e
@@ -201,11 +201,11 @@ module _ (A : Setting) {p h : ℕ} (E : Time (plan A) p h) where
           })
 
       -- both rows of a match passed up
-      module _ (q : ℕ) (l : q < a₁ .peak) (w : HasTip (lengthened side (tableOf s₁) r e) (otherSide side) level (top side e) q) (o : sh .list .apart (top side e) ≡ false) where
+      module _ (q : ℕ) (l : q < a₁ .reach) (w : HasTip (lengthened side (tableOf s₁) r e) (otherSide side) level (top side e) q) (o : sh .list .apart (top side e) ≡ false) where
         abbrev b₁ : Work
         b₁ = joined (A .sheet) (A .rows) (A .records) a₁ side q r
 
-        J : (b₁ .journal ≡ a₁ .journal) × (b₁ .peak ≡ a₁ .peak) × (b₁ .records ≡ a₁ .records) × (b₁ .end ≡ a₁ .end)
+        J : (b₁ .journal ≡ a₁ .journal) × (b₁ .reach ≡ a₁ .reach) × (b₁ .records ≡ a₁ .records) × (b₁ .end ≡ a₁ .end)
         J = joined-rest (A .sheet) (A .rows) (A .records) a₁ side q r
 
         listed-b : listed (journalOf b₁) ≡ edgeBit (nameAt level (e .name)) + listed (journalOf s)
@@ -218,8 +218,8 @@ module _ (A : Setting) {p h : ℕ} (E : Time (plan A) p h) where
         Ib = record {
           state = state-joined A E n s B G level e (I .state) P C counted side goes s₁ r L q l w o;
           held = λ k m. rw (J .0) (held-attached k (omega (arith, J .2)));
-          peak-rows = omega (arith, L .inside, rest .0, J .1);
-          peak-records = omega (arith, rest .0, rest .1, J .1, J .2);
+          reach-rows = omega (arith, L .inside, rest .0, J .1);
+          reach-records = omega (arith, rest .0, rest .1, J .1, J .2);
           is-done = J .3 ∙ rest .2 ∙ is-done;
           spare = I .spare;
         }
@@ -270,7 +270,7 @@ module _ (A : Setting) {p h : ℕ} (E : Time (plan A) p h) where
 
       met-outcome : {f : Found} → Met A E n s B G level e (I .state) P C counted side goes s₁ r L f → Ended (up.meet room next a₁ side r f)
       unfolding up.meet
-      met-outcome (none I₂) = done B X (record { state = I₂; held = held-attached; peak-rows = omega (arith, L .inside, rest .0); peak-records = omega (arith, rest .0, rest .1); is-done = rest .2 ∙ is-done; spare = I .spare }) listed₁
+      met-outcome (none I₂) = done B X (record { state = I₂; held = held-attached; reach-rows = omega (arith, L .inside, rest .0); reach-records = omega (arith, rest .0, rest .1); is-done = rest .2 ∙ is-done; spare = I .spare }) listed₁
           (rw table₁ (kept₂ N n E (I .state) P C side goes r (L .slot)))
       met-outcome (some q l w o) = both-outcome q l w o
 
@@ -295,14 +295,14 @@ module _ (A : Setting) {p h : ℕ} (E : Time (plan A) p h) where
 
     -- no free row: with one more, all would be in use
     module _ (nothing : up.find room s level side (bottom side e) ≡ Nothing) (none-free : A .rows ≤ r₀) where
-      at-peak : (r₀ ≡ s .peak) × (s₀ .peak ≡ suc (s .peak)) × ((i : ℕ) → i < s .peak → s .rows i .used ≡ true)
-      at-peak = ⊎-elim (λ h. absurd (omega (arith, h .0, none-free, I .peak-rows))) (λ h. h) (O₀ .peak)
+      at-peak : (r₀ ≡ s .reach) × (s₀ .reach ≡ suc (s .reach)) × ((i : ℕ) → i < s .reach → s .rows i .used ≡ true)
+      at-peak = ⊎-elim (λ h. absurd (omega (arith, h .0, none-free, I .reach-rows))) (λ h. h) (O₀ .reach)
 
       I₀ : State sh p h (suc n) (tableOf s) (journalOf s) B G
       I₀ = wider (I .spare) (I .state)
 
       L₀ : Slotted A E (suc n) s B G level e I₀ P C counted side goes s₀ r₀
-      L₀ = opened-slot A E (suc n) s B G level e I₀ P C counted side goes nothing (omega (arith, at-peak .0, I .peak-rows)) (omega (arith, at-peak .1, I .peak-rows))
+      L₀ = opened-slot A E (suc n) s B G level e I₀ P C counted side goes nothing (omega (arith, at-peak .0, I .reach-rows)) (omega (arith, at-peak .1, I .reach-rows))
 
       abbrev a₀ : Work
       a₀ = attached (A .sheet) (A .rows) (A .records) s₀ level side e r₀
@@ -310,7 +310,7 @@ module _ (A : Setting) {p h : ℕ} (E : Time (plan A) p h) where
       in-use : (i : ℕ) → i < suc n → tableOf s₀ i .used ≡ true
       in-use i l = ap (λ T. T i .used) (O₀ .table) ∙ ⊎-elim
           (λ q. ap (λ (v : Row ℕ). v .used) (put-at (tableOf s) r₀ i (newRow level (bottom side e)) q))
-          (λ q. let m : i < s .peak = omega (arith, none-free, at-peak .0, q) in ap (λ (v : Row ℕ). v .used) (put-off (tableOf s) r₀ i (newRow level (bottom side e)) q) ∙ used-view (s .rows) (s .peak) i m (at-peak .2 i m))
+          (λ q. let m : i < s .reach = omega (arith, none-free, at-peak .0, q) in ap (λ (v : Row ℕ). v .used) (put-off (tableOf s) r₀ i (newRow level (bottom side e)) q) ∙ used-view (s .rows) (s .reach) i m (at-peak .2 i m))
           (eq-or-ne i r₀)
 
       in-use-after : (i : ℕ) → i < suc n → tableOf a₀ i .used ≡ true
@@ -350,7 +350,7 @@ module _ (A : Setting) {p h : ℕ} (E : Time (plan A) p h) where
       B₁ = reborn B r₁
 
       I₁ : Inv A E s B₁ G
-      I₁ = record { state = reborn-state (I .state) r₁ l (O₁ .free); held = I .held; peak-rows = I .peak-rows; peak-records = I .peak-records; is-done = I .is-done; spare = I .spare }
+      I₁ = record { state = reborn-state (I .state) r₁ l (O₁ .free); held = I .held; reach-rows = I .reach-rows; reach-records = I .reach-records; is-done = I .is-done; spare = I .spare }
 
       P₁ : Pre sh p h (tableOf s) B₁ G level e
       P₁ = reborn-pre (I .state) r₁ l (O₁ .free) P
@@ -358,8 +358,8 @@ module _ (A : Setting) {p h : ℕ} (E : Time (plan A) p h) where
       C₁ : Clean level (tableOf s) B₁ G
       C₁ = reborn-clean (I .state) r₁ l (O₁ .free) P C
 
-      peak-fits : (s₁ .peak ≤ A .rows) × (s₁ .peak ≤ s₁ .records + 1)
-      peak-fits = ⊎-elim (λ k. (omega (arith, k .1, I .peak-rows), omega (arith, k .1, J₁ .1, I .peak-records))) (λ k. (omega (arith, k .0, k .1, l), omega (arith, k .1, J₁ .1, I .peak-records))) (O₁ .peak)
+      peak-fits : (s₁ .reach ≤ A .rows) × (s₁ .reach ≤ s₁ .records + 1)
+      peak-fits = ⊎-elim (λ k. (omega (arith, k .1, I .reach-rows), omega (arith, k .1, J₁ .1, I .reach-records))) (λ k. (omega (arith, k .0, k .1, l), omega (arith, k .1, J₁ .1, I .reach-records))) (O₁ .reach)
 
       pub opened-outcome : Ends (up.onRow room next s₁ level side e r₁)
       opened-outcome = by (on-row-outcome level next ih s B₁ G e I₁ P₁ C₁ counted side goes s₁ r₁ (opened-slot A E (A .rows) s B₁ G level e (I₁ .state) P₁ C₁ counted side goes nothing l (peak-fits .0)) (peak-fits .1) (J₁ .2 ∙ I .is-done))
@@ -370,7 +370,7 @@ module _ (A : Setting) {p h : ℕ} (E : Time (plan A) p h) where
 
     chain-outcome : (f : Found) → up.find room s level side (bottom side e) ≡ f → Ends (up.inChain room next s level side e f)
     unfolding up.inChain
-    chain-outcome (At r) q = on-row-outcome level next ih s B G e I P C counted side goes s r (found-slot A E (A .rows) s B G level e (I .state) P C counted side goes r q (I .peak-rows)) (omega (arith, I .peak-records)) (I .is-done)
+    chain-outcome (At r) q = on-row-outcome level next ih s B G e I P C counted side goes s r (found-slot A E (A .rows) s B G level e (I .state) P C counted side goes r q (I .reach-rows)) (omega (arith, I .reach-records)) (I .is-done)
     chain-outcome Nothing q = by (ltb r₁ (A .rows)) refl
       where
         by : (t : Bool) → ltb r₁ (A .rows) ≡ t → Ends (up.pickState t (up.onRow room next s₁ level side e r₁) (up.ended NoFreeRow s))
@@ -386,7 +386,7 @@ module _ (A : Setting) {p h : ℕ} (E : Time (plan A) p h) where
     abbrev z : Work
     z = closed (A .sheet) (A .rows) (A .records) s (suc l) e
 
-    R : (tableOf z ≡ tableOf s) × (z .peak ≡ s .peak) × (z .records ≡ s .records + 1) × (z .end ≡ s .end)
+    R : (tableOf z ≡ tableOf s) × (z .reach ≡ s .reach) × (z .records ≡ s .records + 1) × (z .end ≡ s .end)
     R = closed-rest (A .sheet) (A .rows) (A .records) s (suc l) e
 
     journal-is : journalOf z ≡ close (ofRow (e .name)) (pos (e .length .falling)) ∷ journalOf s
@@ -421,7 +421,7 @@ module _ (A : Setting) {p h : ℕ} (E : Time (plan A) p h) where
         let I₂ : State sh p h (A .rows) (tableOf z) (journalOf z) B (closing.X N (A .rows) E (I .state) P C ends) = rw (R .0, journal-is) (w .0) in
         let room-left : s .records < A .records = omega (arith, records-small I₂ (A .sheet .edges) (omega (arith, listed-is, few)), records-recs (z .journal) (z .records), R .2, A .journal-long) in
         rw (close-is (A .sheet) (A .rows) (A .records) s (suc l) e room-left)
-        (done B _ (record { state = I₂; held = held-closed; peak-rows = omega (arith, R .1, I .peak-rows); peak-records = omega (arith, R .1, R .2, I .peak-records); is-done = R .3 ∙ I .is-done; spare = I .spare }) listed-is (rw (R .0) (w .1)))
+        (done B _ (record { state = I₂; held = held-closed; reach-rows = omega (arith, R .1, I .reach-rows); reach-records = omega (arith, R .1, R .2, I .reach-records); is-done = R .3 ∙ I .is-done; spare = I .spare }) listed-is (rw (R .0) (w .1)))
 
   -- an edge that does not close has a level to go to
   level-left : (s : Work) (level : ℕ) (e : LevelEdge ℕ) (B : Naming) (G : Paths) → Inv A E s B G → Pre sh p h (tableOf s) B G level e → (e .tail ≡ e .head → ⊥) → suc level ≤ 12

@@ -16,7 +16,7 @@ use Rattle.steps.specs.declared.Found.the-variants.{At, Nothing}
 use Rattle.steps.specs.Rows.{otherSide, on, Row, LevelEdge}
 use Rattle.steps.specs.SweepUp.{foundBelow, pickFound, hasTip}
 use Rattle.steps.specs.Plain.{put, withBranch, freeRow}
-use Rattle.hartley.specs.Swept.{placesOf}
+use Rattle.steps.specs.Swept.{placesOf}
 use Rattle.hartley.proofs.Puts.{put-at, put-off}
 use Rattle.hartley.proofs.Tables.{Table}
 use Rattle.hartley.proofs.StepOne.{HasTip}

@@ -11,7 +11,8 @@ use borrow.Author.Tests.{ltb-true}
 use Rattle.laws.proofs.Bits.{read-back}
 use Rattle.laws.proofs.Deciding.{not-both}
 use Rattle.steps.specs.Rows.{inRow, closing}
-use Rattle.journal.specs.Layout.{fitting, naturalPart, chainIn}
+use Rattle.steps.specs.SweepDown.{naturalPart}
+use Rattle.journal.specs.Layout.{fitting, chainIn}
 
 -- a number that was made to fit stands as it is
 pub fitted : (n : ℕ) {z : ℤ} → z ≡ pos (fitting n) → toZ w32 (ofZ w32 z) ≡ pos (fitting n)

@@ -10,7 +10,8 @@ use lib.ListN.{length, getD}
 use lib.Seq.{length-sets}
 use Rattle.laws.proofs.Deciding.{lt-or-le}
 use Rattle.steps.specs.Rows.{Chain, inRow, closing, Record}
-use Rattle.journal.specs.Layout.{HasRecord, fitting, naturalPart, chainIn, rowNumber, recordAt, writtenIn}
+use Rattle.steps.specs.SweepDown.{naturalPart}
+use Rattle.journal.specs.Layout.{HasRecord, fitting, chainIn, rowNumber, recordAt, writtenIn}
 use Rattle.laws.proofs.Sets.{getD-sets-other, getD-sets-in}
 
 -- the chain's row, where there is one, has 31 bits

@@ -8,6 +8,7 @@ use lib.ListN.{length, getD}
 use lib.Seq.{sets}
 use Rattle.steps.specs.declared.Found.{Found}
 use Rattle.steps.specs.declared.Found.the-variants.{At, Nothing}
+use Rattle.steps.specs.SweepDown.{naturalPart}
 use Rattle.steps.specs.Rows.{Chain, inRow, closing, Record, Journal}
 
 -- how many records a slice has room for, and that it has room for record k
@@ -20,11 +21,6 @@ HasRecord s k = 4 * k + 4 ≤ length s
 -- a number of 31 bits as it is
 abbrev pub fitting : ℕ → ℕ
 fitting n = min n 2147483647
-
--- a number that is not below 0 as it is, 0 for any other
-unfoldable pub naturalPart : ℤ → ℕ
-naturalPart (pos n) = n
-naturalPart (negsuc n) = 0
 
 unfoldable pub chainIn : ℤ → Chain
 chainIn (pos r) = inRow r

@@ -8,7 +8,8 @@ ghost use lib.IntN.{pos};
 ghost use lib.ListN.{length, take, replicate};
 ghost use lib.Seq.{sets};
 ghost use Rattle.steps.specs.Rows.{inRow, closing};
-ghost use Rattle.journal.specs.Layout.{recordsIn, HasRecord, fitting, naturalPart, chainIn, chainOf, Short, recordAt, writtenIn};
+ghost use Rattle.steps.specs.SweepDown.{naturalPart};
+ghost use Rattle.journal.specs.Layout.{recordsIn, HasRecord, fitting, chainIn, chainOf, Short, recordAt, writtenIn};
 
 // How many numbers a record has.
 const NUMBERS: usize = 4;

@@ -3,6 +3,7 @@ pub mod Deciding
 pub mod Counting
 pub mod First
 pub mod Lowest
+pub mod Further
 pub mod Pigeonhole
 pub mod Largest
 pub mod Tests

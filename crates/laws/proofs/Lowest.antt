@@ -15,18 +15,13 @@ module _ (u : ℕ → Bool) (k : ℕ) where
   abbrev lowest : ℕ
   lowest = first (λ x. not (u x)) k
 
-  -- below the bound, and one more than the count is no larger than it; or the bound itself, and it is one larger
-  pub lowest-is : ((lowest < k) × (u lowest ≡ false) × (max k (count u k + 1) ≡ k)) ⊎ ((lowest ≡ k) × (max k (count u k + 1) ≡ suc k) × ((x : ℕ) → x < k → u x ≡ true))
-  lowest-is = ⊎-elim below above (lt-or-le lowest k)
+  -- below the bound, or the bound itself, and one past it is then past the bound
+  pub lowest-is : ((lowest < k) × (u lowest ≡ false) × (max k (lowest + 1) ≡ k)) ⊎ ((lowest ≡ k) × (max k (lowest + 1) ≡ suc k) × ((x : ℕ) → x < k → u x ≡ true))
+  lowest-is = ⊎-elim (λ l. inl (l, not-true _ (first-holds (λ x. not (u x)) k l), omega arith)) above (lt-or-le lowest k)
     where
-      below : lowest < k → ((lowest < k) × (u lowest ≡ false) × (max k (count u k + 1) ≡ k)) ⊎ ((lowest ≡ k) × (max k (count u k + 1) ≡ suc k) × ((x : ℕ) → x < k → u x ≡ true))
-      below l = let f = not-true _ (first-holds (λ x. not (u x)) k l) in inl (l, f, omega (arith, count-less u k lowest l f))
-
-      above : k ≤ lowest → ((lowest < k) × (u lowest ≡ false) × (max k (count u k + 1) ≡ k)) ⊎ ((lowest ≡ k) × (max k (count u k + 1) ≡ suc k) × ((x : ℕ) → x < k → u x ≡ true))
-      above l =
-          let all : (x : ℕ) → x < k → u x ≡ true = λ x h. not-false _ (first-least (λ x. not (u x)) k x (omega arith)) in
-          inr (omega (arith, first-le (λ x. not (u x)) k), omega (arith, count-all u k all), all)
+      above : k ≤ lowest → ((lowest < k) × (u lowest ≡ false) × (max k (lowest + 1) ≡ k)) ⊎ ((lowest ≡ k) × (max k (lowest + 1) ≡ suc k) × ((x : ℕ) → x < k → u x ≡ true))
+      above l = inr (omega (arith, first-le (λ x. not (u x)) k), omega (arith, first-le (λ x. not (u x)) k), λ x h. not-false _ (first-least (λ x. not (u x)) k x (omega arith)))
 
   -- one more than the count and one more than the lowest are past the bound together
   pub count-by-lowest : max k (count u k + 1) ≡ max k (lowest + 1)
-  count-by-lowest = ⊎-elim (λ h. omega (arith, h .0, h .2)) (λ h. omega (arith, h .0, h .1)) lowest-is
+  count-by-lowest = ⊎-elim (λ h. omega (arith, h .0, count-less u k lowest (h .0) (h .1))) (λ h. omega (arith, h .0, count-all u k (h .2))) lowest-is

@@ -13,7 +13,7 @@ use Rattle.laws.proofs.Deciding.{eq-or-ne}
 use Rattle.steps.specs.SweepDown.{Pair}
 use Rattle.steps.specs.Plain.{put, plainTables}
 use Rattle.steps.proofs.AlikeDown.{Holding, MatchDown}
-use Rattle.journal.specs.Layout.{naturalPart}
+use Rattle.steps.specs.SweepDown.{naturalPart}
 use Rattle.hartley.proofs.Holding.{Fits}
 use Rattle.sweep.specs.Lookup.{Answers, numbersIn, givenIn, answeredIn, tables}
 use Rattle.sweep.proofs.Given.{length-given, given-here, given-elsewhere}

@@ -22,7 +22,8 @@ use Rattle.steps.specs.Plain.{newRow, plainTables, plainJournal}
 use Rattle.steps.proofs.Alike.{Match, Alike, AlikeSweep, start-alike, sweep-alike}
 use Rattle.steps.proofs.AlikeDown.{MatchDown, AlikeReading, down-alike}
 use Rattle.rows.specs.Layout.{rowsIn}
-use Rattle.journal.specs.Layout.{recordSlice, recordsIn, naturalPart}
+use Rattle.steps.specs.SweepDown.{naturalPart}
+use Rattle.journal.specs.Layout.{recordSlice, recordsIn}
 use Rattle.sweep.specs.Slices.{room}
 use Rattle.sweep.specs.Lookup.{numbersIn, tables, reading}
 use Rattle.hartley.specs.Swept.{swept, natural}

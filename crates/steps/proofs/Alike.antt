@@ -1,16 +1,18 @@
 -- Two rooms that hold the same run alike: whatever places, tables and journals are made of, as long as places compare alike, rows look alike after
--- each write and records are kept, every step in one room has its like in the other. So what is shown of plain tables holds of slices.
-use mathlib.Core.Path.{_≡_, refl, sym, ap, subst}
+-- each write and records are kept, every step in one room has its like in the other. So what is shown of plain tables holds of slices. The first run
+-- looks only as far as rows have been opened, and there its reach is its peak; the second may look further, at rows that were never opened.
+use mathlib.Core.Path.{_≡_, refl, sym, ap, _∙_, subst}
 use mathlib.Core.Bool.{Bool, true, false, not, _&&_}
+use mathlib.Core.Logic.{⊎-elim}
 use Prim.Native.Nat.{ℕ, zero, suc, _+_, max, _≤_, _<_}
 use native.Mathlib.Omega.{arith}
 use lib.Dec.{eqb, ltb, leb}
 use lib.IntN.{pos}
-use borrow.Author.Tests.{ltb-true}
-use Rattle.laws.proofs.Deciding.{not-both, both-true}
-use Rattle.laws.specs.Counting.{first}
-use Rattle.laws.proofs.Counting.{count-same}
-use Rattle.laws.proofs.First.{first-same, first-le}
+use borrow.Author.Tests.{ltb-true, lt-ltb, le-ltb}
+use Rattle.laws.proofs.Deciding.{lt-or-le, not-both, both-true}
+use Rattle.laws.specs.Counting.{count, first}
+use Rattle.laws.proofs.First.{first-le, first-least, first-none}
+use Rattle.laws.proofs.Further.{first-further, first-no-further, count-further}
 use Rattle.laws.proofs.Lowest.{count-by-lowest}
 use Rattle.steps.specs.declared.Side.{Side}
 use Rattle.steps.specs.declared.Side.the-variants.{Rising, Falling}
@@ -30,6 +32,21 @@ after-both {A} {A′} R {u} e {x} {y} {x′} {y′} h f = subst (λ v. R (up.aft
     by Done g = g refl
     by NoFreeRow g = h
     by Overrun g = h
+
+-- what is found does not change by looking further, where nothing there passes
+found-same : (p q : ℕ → Bool) (n m : ℕ) → ((r : ℕ) → r < n → p r ≡ q r) → ((r : ℕ) → n ≤ r → r < m → q r ≡ false) → foundBelow p n ≡ foundBelow q (max n m)
+unfolding foundBelow
+found-same p q n m same none = ⊎-elim some nothing (lt-or-le (first p n) n)
+  where
+    some : first p n < n → up.pickFound (ltb (first p n) n) (first p n) ≡ up.pickFound (ltb (first q (max n m)) (max n m)) (first q (max n m))
+    some l =
+        let e = first-no-further p q n m same l in
+        rw (lt-ltb (first p n) n l, lt-ltb (first q (max n m)) (max n m) (omega (arith, l, e)), e)
+
+    nothing : n ≤ first p n → up.pickFound (ltb (first p n) n) (first p n) ≡ up.pickFound (ltb (first q (max n m)) (max n m)) (first q (max n m))
+    nothing l =
+        let e = first-none q (max n m) (λ r h. ⊎-elim (λ a. sym (same r a) ∙ first-least p n r (omega (arith, a, l))) (λ a. none r a (omega arith)) (lt-or-le r n)) in
+        rw (le-ltb (first p n) n l, le-ltb (first q (max n m)) (max n m) (omega (arith, e)))
 
 module _ {P P′ : Type 0} (R : P → P′ → Type 0) where
   pub record AlikeBranch (b : Branch P) (b′ : Branch P′) : Type 0 where
@@ -60,11 +77,13 @@ pub record SmallRecord (most : ℕ) (entry : Record) : Type 0 where
   pub chain : SmallChain most (entry .chain)
 
 -- The rooms match: R relates places, Rows relates tables in their first k rows, Kept journals in their first k records. Names up to `most` are kept.
-pub record Match {P T J P′ T′ J′ : Type 0} (room : Room P T J) (room′ : Room P′ T′ J′) (R : P → P′ → Type 0) (Rows : ℕ → T → T′ → Type 0) (Kept : ℕ → J → J′ → Type 0) (most : ℕ) : Type 0 where
+-- The second room is looked at as far as `looked` from the start; rows that far which are not among the first k are not in use.
+pub record Match {P T J P′ T′ J′ : Type 0} (room : Room P T J) (room′ : Room P′ T′ J′) (R : P → P′ → Type 0) (Rows : ℕ → T → T′ → Type 0) (Kept : ℕ → J → J′ → Type 0) (most looked : ℕ) : Type 0 where
   pub same : {p q : P} {p′ q′ : P′} → R p p′ → R q q′ → room .places .same p q ≡ room′ .places .same p′ q′
   pub below : {p q : P} {p′ q′ : P′} → R p p′ → R q q′ → room .places .below p q ≡ room′ .places .below p′ q′
   pub apart : {p : P} {p′ : P′} → R p p′ → room .places .apart p ≡ room′ .places .apart p′
   pub look : {k : ℕ} {t : T} {t′ : T′} → Rows k t t′ → (r : ℕ) → r < k → AlikeRow R (room .table .look t r) (room′ .table .look t′ r)
+  pub unopened : {k : ℕ} {t : T} {t′ : T′} → Rows k t t′ → (r : ℕ) → k ≤ r → r < looked → room′ .table .look t′ r .used ≡ false
   pub opened : {k : ℕ} {t : T} {t′ : T′} {p : P} {p′ : P′} → Rows k t t′ → R p p′ → (r level : ℕ) → r ≤ k → r < room .rows → Rows (max k (r + 1)) (room .table .opened t r level p) (room′ .table .opened t′ r level p′)
   pub moved : {k : ℕ} {t : T} {t′ : T′} {p : P} {p′ : P′} → Rows k t t′ → R p p′ → (r : ℕ) (s : Side) (n : ℕ) → r < k → Rows k (room .table .moved t r s p n) (room′ .table .moved t′ r s p′ n)
   pub finished : {k : ℕ} {t : T} {t′ : T′} → Rows k t t′ → (r : ℕ) (s : Side) → r < k → Rows k (room .table .finished t r s) (room′ .table .finished t′ r s)
@@ -74,26 +93,30 @@ pub record Match {P T J P′ T′ J′ : Type 0} (room : Room P T J) (room′ : 
   pub records : room .records ≡ room′ .records
   pub names : room .records ≤ most
 
-module _ {P T J P′ T′ J′ : Type 0} {room : Room P T J} {room′ : Room P′ T′ J′} {R : P → P′ → Type 0} {Rows : ℕ → T → T′ → Type 0} {Kept : ℕ → J → J′ → Type 0} {most : ℕ} (M : Match room room′ R Rows Kept most) where
-  -- two states alike in every row that was ever open: the peak is at most d more than the records, and at least k
+module _ {P T J P′ T′ J′ : Type 0} {room : Room P T J} {room′ : Room P′ T′ J′} {R : P → P′ → Type 0} {Rows : ℕ → T → T′ → Type 0} {Kept : ℕ → J → J′ → Type 0} {most looked : ℕ} (M : Match room room′ R Rows Kept most looked) where
+  -- two states alike in every row that was ever open: the peak is at most d more than the records, and at least k; it is the first one's reach
   pub record Alike (d k : ℕ) (s : State T J) (s′ : State T′ J′) : Type 0 where
-    pub rows : Rows (s .peak) (s .rows) (s′ .rows)
+    pub rows : Rows (s .reach) (s .rows) (s′ .rows)
     pub journal : Kept (s .records) (s .journal) (s′ .journal)
     pub records : s .records ≡ s′ .records
+    pub reach : s′ .reach ≡ max (s .reach) looked
+    pub by-name : s .peak ≡ s .reach
     pub peak : s .peak ≡ s′ .peak
     pub end : s .end ≡ s′ .end
-    pub named : s .peak ≤ room .rows
+    pub named : s .reach ≤ room .rows
     pub kept : s .records ≤ room .records
-    pub little : s .end ≡ Done → s .peak ≤ s .records + d
-    pub since : k ≤ s .peak
+    pub little : s .end ≡ Done → s .reach ≤ s .records + d
+    pub since : k ≤ s .reach
 
   -- before the first edge
-  pub start-alike : {t : T} {t′ : T′} {j : J} {j′ : J′} → Rows 0 t t′ → Kept 0 j j′ → Alike 0 0 (up.start t j) (up.start t′ j′)
+  pub start-alike : {t : T} {t′ : T′} {j : J} {j′ : J′} → Rows 0 t t′ → Kept 0 j j′ → Alike 0 0 (up.start 0 t j) (up.start looked t′ j′)
   start-alike h g =
       record {
         rows = h;
         journal = g;
         records = refl;
+        reach = omega arith;
+        by-name = refl;
         peak = refl;
         end = refl;
         named = omega arith;
@@ -103,10 +126,10 @@ module _ {P T J P′ T′ J′ : Type 0} {room : Room P T J} {room′ : Room P�
       }
 
   module _ {d k : ℕ} {s : State T J} {s′ : State T′ J′} (A : Alike d k s s′) where
-    look-alike : (r : ℕ) → r < s .peak → AlikeRow R (up.look room s r) (up.look room′ s′ r)
+    look-alike : (r : ℕ) → r < s .reach → AlikeRow R (up.look room s r) (up.look room′ s′ r)
     look-alike r l = M .look (A .rows) r l
 
-    tip-alike : (level : ℕ) (side : Side) {p : P} {p′ : P′} → R p p′ → (r : ℕ) → r < s .peak → hasTip (room .places) level side p (up.look room s r) ≡ hasTip (room′ .places) level side p′ (up.look room′ s′ r)
+    tip-alike : (level : ℕ) (side : Side) {p : P} {p′ : P′} → R p p′ → (r : ℕ) → r < s .reach → hasTip (room .places) level side p (up.look room s r) ≡ hasTip (room′ .places) level side p′ (up.look room′ s′ r)
     unfolding hasTip
     tip-alike level side h r l =
         let a = look-alike r l in
@@ -114,23 +137,31 @@ module _ {P T J P′ T′ J′ : Type 0} {room : Room P T J} {room′ : Room P�
         rw (a .used, a .level, b .finished, M .same (b .tip) h)
 
     find-alike : (level : ℕ) (side : Side) {p : P} {p′ : P′} → R p p′ → up.find room s level side p ≡ up.find room′ s′ level side p′
-    unfolding up.find foundBelow
-    find-alike level side h = rw (first-same _ _ (s .peak) (tip-alike level side h), A .peak)
+    unfolding up.find hasTip
+    find-alike level side {p} {p′} h =
+        found-same (λ r. hasTip (room .places) level side p (up.look room s r)) (λ r. hasTip (room′ .places) level side p′ (up.look room′ s′ r)) (s .reach) looked (tip-alike level side h) (λ r a b. ap (λ t. t && (eqb (up.look room′ s′ r .level) level && (not (on side (up.look room′ s′ r .branch) .finished) && room′ .places .same (on side (up.look room′ s′ r .branch) .tip) p′))) (M .unopened (A .rows) r a b))
+        ∙ ap (foundBelow (λ r. hasTip (room′ .places) level side p′ (up.look room′ s′ r))) (sym (A .reach))
 
     lowest-alike : up.lowestFree room s ≡ up.lowestFree room′ s′
     unfolding up.lowestFree
-    lowest-alike = rw (first-same _ _ (s .peak) (λ r l. ap not (look-alike r l .used)), A .peak)
+    lowest-alike =
+        first-further (λ r. not (up.look room s r .used)) (λ r. not (up.look room′ s′ r .used)) (s .reach) looked (λ r l. ap not (look-alike r l .used)) (λ r a b. ap not (M .unopened (A .rows) r a b))
+        ∙ ap (first (λ r. not (up.look room′ s′ r .used))) (sym (A .reach))
 
     in-use-alike : up.inUse room s ≡ up.inUse room′ s′
     unfolding up.inUse
-    in-use-alike = rw (count-same _ _ (s .peak) (λ r l. look-alike r l .used), A .peak)
+    in-use-alike =
+        count-further (λ r. up.look room s r .used) (λ r. up.look room′ s′ r .used) (s .reach) looked (λ r l. look-alike r l .used) (λ r a b. M .unopened (A .rows) r a b)
+        ∙ ap (count (λ r. up.look room′ s′ r .used)) (sym (A .reach))
 
   -- the same states with other rows and another end
-  changed : {d d′ k k′ : ℕ} {s : State T J} {s′ : State T′ J′} {t : T} {t′ : T′} {x x′ : End} → Rows (s .peak) t t′ → x ≡ x′ → (x ≡ Done → s .peak ≤ s .records + d′) → k′ ≤ s .peak → Alike d k s s′ → Alike d′ k′ (up.ended x (up.withRows t s)) (up.ended x′ (up.withRows t′ s′))
+  changed : {d d′ k k′ : ℕ} {s : State T J} {s′ : State T′ J′} {t : T} {t′ : T′} {x x′ : End} → Rows (s .reach) t t′ → x ≡ x′ → (x ≡ Done → s .reach ≤ s .records + d′) → k′ ≤ s .reach → Alike d k s s′ → Alike d′ k′ (up.ended x (up.withRows t s)) (up.ended x′ (up.withRows t′ s′))
   changed h e l m A = record {
     rows = h;
     journal = A .journal;
     records = A .records;
+    reach = A .reach;
+    by-name = A .by-name;
     peak = A .peak;
     end = e;
     named = A .named;
@@ -139,43 +170,45 @@ module _ {P T J P′ T′ J′ : Type 0} {room : Room P T J} {room′ : Room P�
     since = m;
   }
 
-  weaken : {d d′ k k′ : ℕ} {s : State T J} {s′ : State T′ J′} → d ≤ d′ → Alike d k s s′ → k′ ≤ s .peak → Alike d′ k′ s s′
+  weaken : {d d′ k k′ : ℕ} {s : State T J} {s′ : State T′ J′} → d ≤ d′ → Alike d k s s′ → k′ ≤ s .reach → Alike d′ k′ s s′
   weaken l A m = changed (A .rows) (A .end) (λ e. omega (arith, l, A .little e)) m A
 
-  with-rows : {d k : ℕ} {s : State T J} {s′ : State T′ J′} {t : T} {t′ : T′} → Rows (s .peak) t t′ → Alike d k s s′ → Alike d k (up.withRows t s) (up.withRows t′ s′)
+  with-rows : {d k : ℕ} {s : State T J} {s′ : State T′ J′} {t : T} {t′ : T′} → Rows (s .reach) t t′ → Alike d k s s′ → Alike d k (up.withRows t s) (up.withRows t′ s′)
   with-rows h A = changed h (A .end) (A .little) (A .since) A
 
   -- a state that ended early
   end-early : {d k : ℕ} {s : State T J} {s′ : State T′ J′} (x : End) → (x ≡ Done → ⊥) → Alike d k s s′ → Alike 0 k (up.ended x s) (up.ended x s′)
   end-early x n A = changed (A .rows) refl (λ e. absurd (n e)) (A .since) A
 
-  by-name : (s : State T J) → max (s .peak) (up.inUse room s + 1) ≡ max (s .peak) (up.lowestFree room s + 1)
+  opened-name : (s : State T J) → max (s .reach) (up.inUse room s + 1) ≡ max (s .reach) (up.lowestFree room s + 1)
   unfolding up.inUse up.lowestFree
-  by-name s = count-by-lowest (λ r. up.look room s r .used) (s .peak)
+  opened-name s = count-by-lowest (λ r. up.look room s r .used) (s .reach)
 
-  lowest-up-to : (s : State T J) → up.lowestFree room s ≤ s .peak
+  lowest-up-to : (s : State T J) → up.lowestFree room s ≤ s .reach
   unfolding up.lowestFree
-  lowest-up-to s = first-le _ (s .peak)
+  lowest-up-to s = first-le _ (s .reach)
 
   open-alike : {k : ℕ} {s : State T J} {s′ : State T′ J′} (A : Alike 0 k s s′) (level : ℕ) {p : P} {p′ : P′} → R p p′ → s .end ≡ Done → up.lowestFree room s < room .rows → Alike 1 k (up.open-row room s (up.lowestFree room s) level p) (up.open-row room′ s′ (up.lowestFree room s) level p′)
   unfolding up.open-row
   open-alike {k} {s} {s′} A level {p} {p′} h done l =
       record {
-        rows = subst (λ n. Rows n (room .table .opened (s .rows) (up.lowestFree room s) level p) (room′ .table .opened (s′ .rows) (up.lowestFree room s) level p′)) (sym (by-name s)) (M .opened (A .rows) h (up.lowestFree room s) level (lowest-up-to s) l);
+        rows = M .opened (A .rows) h (up.lowestFree room s) level (lowest-up-to s) l;
         journal = A .journal;
         records = A .records;
+        reach = omega (arith, A .reach);
+        by-name = omega (arith, A .by-name, opened-name s);
         peak = λ i. max (A .peak i) (in-use-alike A i + 1);
         end = A .end;
-        named = omega (arith, A .named, l, by-name s);
+        named = omega (arith, A .named, l);
         kept = A .kept;
-        little = λ e. omega (arith, A .little done, lowest-up-to s, by-name s);
+        little = λ e. omega (arith, A .little done, lowest-up-to s);
         since = omega (arith, A .since);
       }
 
-  -- the opened row is below the new peak
-  opened-below : (s : State T J) (level : ℕ) (p : P) → up.lowestFree room s < up.open-row room s (up.lowestFree room s) level p .peak
+  -- the opened row is within the new reach
+  opened-below : (s : State T J) (level : ℕ) (p : P) → up.lowestFree room s < up.open-row room s (up.lowestFree room s) level p .reach
   unfolding up.open-row
-  opened-below s level p = omega (arith, by-name s)
+  opened-below s level p = omega arith
 
   open-records : (s : State T J) (r level : ℕ) (p : P) → up.open-row room s r level p .records ≡ s .records
   unfolding up.open-row
@@ -209,6 +242,8 @@ module _ {P T J P′ T′ J′ : Type 0} {room : Room P T J} {room′ : Room P�
         rows = A .rows;
         journal = rw (← h, ← A .records) (M .written (A .journal) l m);
         records = λ i. A .records i + 1;
+        reach = A .reach;
+        by-name = A .by-name;
         peak = A .peak;
         end = A .end;
         named = A .named;
@@ -217,7 +252,7 @@ module _ {P T J P′ T′ J′ : Type 0} {room : Room P T J} {room′ : Room P�
         since = A .since;
       }
 
-  move-alike : {k : ℕ} {s : State T J} {s′ : State T′ J′} {p : P} {p′ : P′} {n n′ : ℕ} → Alike 0 k s s′ → (r : ℕ) (side : Side) → R p p′ → n ≡ n′ → r < s .peak → Alike 0 k (up.move room s r side p n) (up.move room′ s′ r side p′ n′)
+  move-alike : {k : ℕ} {s : State T J} {s′ : State T′ J′} {p : P} {p′ : P′} {n n′ : ℕ} → Alike 0 k s s′ → (r : ℕ) (side : Side) → R p p′ → n ≡ n′ → r < s .reach → Alike 0 k (up.move room s r side p n) (up.move room′ s′ r side p′ n′)
   unfolding up.move
   move-alike A r side h e l = rw (← e) (with-rows (M .moved (A .rows) h r side _ l) A)
 
@@ -231,12 +266,12 @@ module _ {P T J P′ T′ J′ : Type 0} {room : Room P T J} {room′ : Room P�
   overrun : {d k : ℕ} {s : State T J} {s′ : State T′ J′} → Alike d k s s′ → Alike 0 k (up.ended Overrun s) (up.ended Overrun s′)
   overrun A = end-early Overrun (λ x. let z : _≡_ {A = ℕ} 0 1 = cc in omega arith) A
 
-  -- writing leaves the peak
-  write-peak : (s : State T J) (entry : Record) → up.write room s entry .peak ≡ s .peak
+  -- writing leaves the reach
+  write-reach : (s : State T J) (entry : Record) → up.write room s entry .reach ≡ s .reach
   unfolding up.write
-  write-peak s entry = refl
+  write-reach s entry = refl
 
-  attach-alike : {k : ℕ} {s : State T J} {s′ : State T′ J′} → Alike 1 k s s′ → (level : ℕ) → level ≤ 12 → (side : Side) {e : LevelEdge P} {e′ : LevelEdge P′} → AlikeEdge R most e e′ → (r : ℕ) → r < s .peak → r ≤ s .records → Alike 0 k (up.attach room s level side e r) (up.attach room′ s′ level side e′ r)
+  attach-alike : {k : ℕ} {s : State T J} {s′ : State T′ J′} → Alike 1 k s s′ → (level : ℕ) → level ≤ 12 → (side : Side) {e : LevelEdge P} {e′ : LevelEdge P′} → AlikeEdge R most e e′ → (r : ℕ) → r < s .reach → r ≤ s .records → Alike 0 k (up.attach room s level side e r) (up.attach room′ s′ level side e′ r)
   unfolding up.attach
   attach-alike {k} {s} {s′} A level lv side {e} {e′} h r rl rr =
       let a = M .look (A .rows) r rl in
@@ -244,7 +279,7 @@ module _ {P T J P′ T′ J′ : Type 0} {room : Room P T J} {room′ : Room P�
       let n = longer-alike side a h in
       pick-alike _ _ (λ i. ltb (A .records i) (M .records i) && leb (n i) mostLength)
       (λ q. let l = ltb-true _ _ (both-true (ltb (s .records) (room .records)) _ q .0) in
-      move-alike (write-alike A b l (record { level = lv; name = h .small; chain = omega (arith, rr, l, M .names) })) r side (top-alike side h) n (omega (arith, rl, write-peak s (up.chainRecord room level side (up.look room s r) e r))))
+      move-alike (write-alike A b l (record { level = lv; name = h .small; chain = omega (arith, rr, l, M .names) })) r side (top-alike side h) n (omega (arith, rl, write-reach s (up.chainRecord room level side (up.look room s r) e r))))
       (λ q. overrun A)
 
   close-alike : {k : ℕ} {s : State T J} {s′ : State T′ J′} → Alike 0 k s s′ → (level : ℕ) → level ≤ 12 → {e : LevelEdge P} {e′ : LevelEdge P′} → AlikeEdge R most e e′ → Alike 0 k (up.close room s level e) (up.close room′ s′ level e′)
@@ -259,11 +294,11 @@ module _ {P T J P′ T′ J′ : Type 0} {room : Room P T J} {room′ : Room P�
   unfolding up.meeting
   meeting-alike A level side h = λ i. up.pickMeeting room (M .apart (top-alike side h) i) (find-alike A level (otherSide side) (top-alike side h) i)
 
-  finish-alike : {k : ℕ} {s : State T J} {s′ : State T′ J′} → Alike 0 k s s′ → (r : ℕ) (side : Side) → r < s .peak → Alike 0 k (up.finish room s r side) (up.finish room′ s′ r side)
+  finish-alike : {k : ℕ} {s : State T J} {s′ : State T′ J′} → Alike 0 k s s′ → (r : ℕ) (side : Side) → r < s .reach → Alike 0 k (up.finish room s r side) (up.finish room′ s′ r side)
   unfolding up.finish
   finish-alike A r side l = with-rows (M .finished (A .rows) r side l) A
 
-  free-alike : {k : ℕ} {s : State T J} {s′ : State T′ J′} → Alike 0 k s s′ → (r : ℕ) → r < s .peak → Alike 0 k (up.free room s r) (up.free room′ s′ r)
+  free-alike : {k : ℕ} {s : State T J} {s′ : State T′ J′} → Alike 0 k s s′ → (r : ℕ) → r < s .reach → Alike 0 k (up.free room s r) (up.free room′ s′ r)
   unfolding up.free
   free-alike A r l = with-rows (M .freed (A .rows) r l) A
 
@@ -271,7 +306,7 @@ module _ {P T J P′ T′ J′ : Type 0} {room : Room P T J} {room′ : Room P�
   after-alike : {k : ℕ} {x : State T J} {x′ : State T′ J′} → Alike 0 k x x′ → {y : State T J} {y′ : State T′ J′} → (x .end ≡ Done → Alike 0 k y y′) → Alike 0 k (up.afterDone (x .end) x y) (up.afterDone (x′ .end) x′ y′)
   after-alike {k} A f = after-both (Alike 0 k) (A .end) A f
 
-  -- a row found is below the peak
+  -- a row found is within the reach
   found-below : (test : ℕ → Bool) (n q : ℕ) → foundBelow test n ≡ At q → q < n
   unfolding foundBelow
   found-below test n q h = by (ltb (first test n) n) refl h
@@ -280,17 +315,17 @@ module _ {P T J P′ T′ J′ : Type 0} {room : Room P T J} {room′ : Room P�
       by true e u = let v : first test n ≡ q = cc in omega (arith, v, ltb-true (first test n) n e)
       by false e u = let z : _≡_ {A = ℕ} 0 1 = cc in absurd (omega arith)
 
-  found-in-time : (s : State T J) (level : ℕ) (side : Side) (p : P) (q : ℕ) → up.find room s level side p ≡ At q → q < s .peak
+  found-in-time : (s : State T J) (level : ℕ) (side : Side) (p : P) (q : ℕ) → up.find room s level side p ≡ At q → q < s .reach
   unfolding up.find
-  found-in-time s level side p q h = found-below _ (s .peak) q h
+  found-in-time s level side p q h = found-below _ (s .reach) q h
 
-  found-small : {k : ℕ} {s : State T J} {s′ : State T′ J′} → Alike 0 k s s′ → s .end ≡ Done → (level : ℕ) (side : Side) (e : LevelEdge P) (q : ℕ) → up.meeting room s level side e ≡ At q → (q < s .peak) × (q ≤ most)
+  found-small : {k : ℕ} {s : State T J} {s′ : State T′ J′} → Alike 0 k s s′ → s .end ≡ Done → (level : ℕ) (side : Side) (e : LevelEdge P) (q : ℕ) → up.meeting room s level side e ≡ At q → (q < s .reach) × (q ≤ most)
   unfolding up.meeting up.find
   found-small {k} {s} A done level side e q h = by (room .places .apart (top side e)) h
     where
-      by : (t : Bool) → up.pickMeeting room t (foundBelow (λ r. hasTip (room .places) level (otherSide side) (top side e) (up.look room s r)) (s .peak)) ≡ At q → (q < s .peak) × (q ≤ most)
+      by : (t : Bool) → up.pickMeeting room t (foundBelow (λ r. hasTip (room .places) level (otherSide side) (top side e) (up.look room s r)) (s .reach)) ≡ At q → (q < s .reach) × (q ≤ most)
       by true u = let z : _≡_ {A = ℕ} 0 1 = cc in absurd (omega arith)
-      by false u = let l = found-below _ (s .peak) q u in (l, omega (arith, l, A .little done, A .kept, M .names))
+      by false u = let l = found-below _ (s .reach) q u in (l, omega (arith, l, A .little done, A .kept, M .names))
 
   edge-alike : (r : ℕ) {row : Row P} {row′ : Row P′} → r ≤ most → AlikeRow R row row′ → AlikeEdge R most (asEdge r row) (asEdge r row′)
   unfolding asEdge
@@ -326,24 +361,24 @@ module _ {P T J P′ T′ J′ : Type 0} {room : Room P T J} {room′ : Room P�
         let b = g q refl in
         pass-both-alike (finish-alike (finish-alike A q (otherSide side) (omega (arith, b .0, A .since))) r side (omega (arith, l, A .since))) done q r (b .0) (b .1) l m
 
-    -- steps 2 to 4; attaching leaves no smaller peak
-    on-row-since : {s : State T J} {s′ : State T′ J′} → Alike 1 (s .peak) s s′ → (level : ℕ) → level ≤ 12 → (side : Side) {e : LevelEdge P} {e′ : LevelEdge P′} → AlikeEdge R most e e′ → (r : ℕ) → r < s .peak → r ≤ s .records → Alike 0 (up.attach room s level side e r .peak) (up.onRow room next s level side e r) (up.onRow room′ next′ s′ level side e′ r)
+    -- steps 2 to 4; attaching leaves no smaller reach
+    on-row-since : {s : State T J} {s′ : State T′ J′} → Alike 1 (s .reach) s s′ → (level : ℕ) → level ≤ 12 → (side : Side) {e : LevelEdge P} {e′ : LevelEdge P′} → AlikeEdge R most e e′ → (r : ℕ) → r < s .reach → r ≤ s .records → Alike 0 (up.attach room s level side e r .reach) (up.onRow room next s level side e r) (up.onRow room′ next′ s′ level side e′ r)
     unfolding up.onRow
     on-row-since {s} {s′} A level lv side {e} {e′} h r l m =
         let B = attach-alike A level lv side h r l m in
         let f = meeting-alike B level side h in
-        let C : Alike 0 (up.attach room s level side e r .peak) (up.attach room s level side e r) (up.attach room′ s′ level side e′ r) = weaken (omega arith) B (omega arith) in
+        let C : Alike 0 (up.attach room s level side e r .reach) (up.attach room s level side e r) (up.attach room′ s′ level side e′ r) = weaken (omega arith) B (omega arith) in
         after-alike C (λ done. rw (← f) (meet-alike C done side r (omega (arith, l, B .since)) (omega (arith, m, A .kept, M .names)) (up.meeting room (up.attach room s level side e r) level side e) (λ q u. found-small B done level side e q u)))
 
-    on-row-alike : {k : ℕ} {s : State T J} {s′ : State T′ J′} → Alike 1 k s s′ → (level : ℕ) → level ≤ 12 → (side : Side) {e : LevelEdge P} {e′ : LevelEdge P′} → AlikeEdge R most e e′ → (r : ℕ) → r < s .peak → r ≤ s .records → Alike 0 k (up.onRow room next s level side e r) (up.onRow room′ next′ s′ level side e′ r)
+    on-row-alike : {k : ℕ} {s : State T J} {s′ : State T′ J′} → Alike 1 k s s′ → (level : ℕ) → level ≤ 12 → (side : Side) {e : LevelEdge P} {e′ : LevelEdge P′} → AlikeEdge R most e e′ → (r : ℕ) → r < s .reach → r ≤ s .records → Alike 0 k (up.onRow room next s level side e r) (up.onRow room′ next′ s′ level side e′ r)
     on-row-alike {k} {s} {s′} A level lv side h r l m =
-        let A₁ : Alike 1 (s .peak) s s′ = weaken (omega arith) A (omega arith) in
+        let A₁ : Alike 1 (s .reach) s s′ = weaken (omega arith) A (omega arith) in
         let B = attach-alike A₁ level lv side h r l m in
         let C = on-row-since A₁ level lv side h r l m in
         weaken (omega arith) C (omega (arith, A .since, B .since, C .since))
 
     -- step 1: the row found, or the lowest free one opened, or none
-    in-chain-alike : {k : ℕ} {s : State T J} {s′ : State T′ J′} → Alike 0 k s s′ → s .end ≡ Done → (level : ℕ) → level ≤ 12 → (side : Side) {e : LevelEdge P} {e′ : LevelEdge P′} → AlikeEdge R most e e′ → (f : Found) → ((q : ℕ) → f ≡ At q → q < s .peak) → Alike 0 k (up.inChain room next s level side e f) (up.inChain room′ next′ s′ level side e′ f)
+    in-chain-alike : {k : ℕ} {s : State T J} {s′ : State T′ J′} → Alike 0 k s s′ → s .end ≡ Done → (level : ℕ) → level ≤ 12 → (side : Side) {e : LevelEdge P} {e′ : LevelEdge P′} → AlikeEdge R most e e′ → (f : Found) → ((q : ℕ) → f ≡ At q → q < s .reach) → Alike 0 k (up.inChain room next s level side e f) (up.inChain room′ next′ s′ level side e′ f)
     unfolding up.inChain
     in-chain-alike A done level lv side h (At r) g =
         let l = g r refl in

@@ -1,4 +1,4 @@
--- What every sweep keeps within, in any room: the records stay within the journal's, the peak within the records and the rows, the edge at which a
+-- What every sweep that looks as far as rows have been opened keeps within, in any room: the records stay within the journal's, the reach, which is the peak, within the records and the rows, the edge at which a
 -- sweep up ends within the list, and a sweep down counts no more polygons than records. Running alike keeps the first two bounds, and a room runs like
 -- itself, whatever the names in the list are.
 use mathlib.Core.Path.{_≡_, refl}
@@ -17,13 +17,14 @@ use Rattle.steps.proofs.Alike.{AlikeRow, AlikeEdge, Match, start-alike,
 row-self : {P : Type 0} (row : Row P) → AlikeRow (λ p q. p ≡ q) row row
 row-self row = record { used = refl; level = refl; branch = λ s. record { tip = refl; length = refl; finished = refl } }
 
-self : {P T J : Type 0} (room : Room P T J) (most : ℕ) → room .records ≤ most → Match room room (λ p q. p ≡ q) (λ k t t′. t ≡ t′) (λ k j j′. j ≡ j′) most
+pub self : {P T J : Type 0} (room : Room P T J) (most : ℕ) → room .records ≤ most → Match room room (λ p q. p ≡ q) (λ k t t′. t ≡ t′) (λ k j j′. j ≡ j′) most 0
 self room most names =
     record {
       same = λ h k. λ i. room .places .same (h i) (k i);
       below = λ h k. λ i. room .places .below (h i) (k i);
       apart = λ h. λ i. room .places .apart (h i);
       look = λ {k} {t} h r l. rw (← h) (row-self (room .table .look t r));
+      unopened = λ h r l m. absurd (omega arith);
       opened = λ h e r level l m. λ i. room .table .opened (h i) r level (e i);
       moved = λ h e r s n l. λ i. room .table .moved (h i) r s (e i) n;
       finished = λ h r s l. λ i. room .table .finished (h i) r s;
@@ -36,23 +37,22 @@ self room most names =
 
 pub record Within {P T J : Type 0} (room : Room P T J) (s : State T J) : Type 0 where
   pub kept : s .records ≤ room .records
-  pub named : s .peak ≤ room .rows
-  pub little : s .end ≡ Done → s .peak ≤ s .records
+  pub named : s .reach ≤ room .rows
+  pub little : s .end ≡ Done → s .reach ≤ s .records
+  pub by-name : s .peak ≡ s .reach
 
-pub sweep-within : {P T J : Type 0} (room : Room P T J) (list : ℕ → LevelEdge P) (n : ℕ) (t : T) (j : J) → Within room (sweepUp room list (start t j) n .state)
+-- no name in a list, or of a record, is above this
+abbrev pub mostName : {P T J : Type 0} → Room P T J → (ℕ → LevelEdge P) → ℕ → ℕ
+mostName room list n = room .records + largest (λ i. list i .name) n
+
+pub same-edges : {P T J : Type 0} (room : Room P T J) (list : ℕ → LevelEdge P) (n i : ℕ) → i < n → AlikeEdge (λ p q. p ≡ q) (mostName room list n) (list i) (list i)
+same-edges room list n i l = record { name = refl; small = omega (arith, largest-bound (λ k. list k .name) n i l); tail = refl; head = refl; length = refl }
+
+pub sweep-within : {P T J : Type 0} (room : Room P T J) (list : ℕ → LevelEdge P) (n : ℕ) (t : T) (j : J) → Within room (sweepUp room list (start 0 t j) n .state)
 sweep-within room list n t j =
-    let B = sweep-alike M list list n same (start-alike M refl refl) .state in
-    record { kept = B .kept; named = B .named; little = λ e. omega (arith, B .little e) }
-  where
-    -- no name is above this
-    most : ℕ
-    most = room .records + largest (λ i. list i .name) n
-
-    M : Match room room (λ p q. p ≡ q) (λ k t t′. t ≡ t′) (λ k j j′. j ≡ j′) most
-    M = self room most (omega arith)
-
-    same : (i : ℕ) → i < n → AlikeEdge (λ p q. p ≡ q) most (list i) (list i)
-    same i l = record { name = refl; small = omega (arith, largest-bound (λ k. list k .name) n i l); tail = refl; head = refl; length = refl }
+    let M = self room (mostName room list n) (omega arith) in
+    let B = sweep-alike M list list n (same-edges room list n) (start-alike M refl refl) .state in
+    record { kept = B .kept; named = B .named; little = λ e. omega (arith, B .little e); by-name = B .by-name }
 
 pub edge-within : {P T J : Type 0} (room : Room P T J) (list : ℕ → LevelEdge P) (s : State T J) (n : ℕ) → sweepUp room list s n .edge ≤ n
 unfolding sweepUp

@@ -3,3 +3,5 @@ pub mod Sheets
 pub mod Alike
 pub mod AlikeDown
 pub mod Bounded
+pub mod Reaching
+pub mod Stopping

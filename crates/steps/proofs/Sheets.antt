@@ -1,25 +1,26 @@
 -- Sheets of document 01 worked by the steps: one table, one test that is computed over all of it.
-use Prim.Native.Nat.{ℕ, suc, _*_, _/_}
+use Prim.Native.Nat.{ℕ, suc, _/_}
 use mathlib.Core.Path.{_≡_, refl}
 use mathlib.Core.Bool.{Bool, true, false, _&&_}
 use mathlib.Core.List.{List, [], _∷_, map}
-use lib.Dec.{eqb, ltb}
+use lib.Dec.{eqb}
 use lib.IntN.{pos, natAbs}
 use lib.ListN.{length}
 use Rattle.laws.specs.Counting as counting
 use Rattle.sheet.specs.Edges as edges
-use Rattle.sheet.specs.Edges.{Drawing, drawingOf}
+use Rattle.sheet.specs.Edges.{drawingOf}
 use Rattle.sheet.specs.Rank as ranks
 use Rattle.sheet.proofs.Drawn.{triangle, twoEdges, square, twoPeaks, touching}
 use Rattle.steps.specs.declared.End.{End}
 use Rattle.steps.specs.declared.End.the-variants.{Done, NoFreeRow, Overrun}
-use Rattle.steps.specs.Rows.{Row, Record, Room, closing}
+use Rattle.steps.specs.Rows.{Row, Record}
 use Rattle.steps.specs.SweepUp as up
-use Rattle.steps.specs.SweepUp.{State, Sweep, sweepUp, listEdge, start}
+use Rattle.steps.specs.SweepUp.{State, Sweep}
 use Rattle.steps.specs.SweepDown as down
-use Rattle.steps.specs.SweepDown.{Pair, Reading, sweepDown}
+use Rattle.steps.specs.SweepDown.{Pair, Reading}
 use Rattle.steps.specs.Plain as plain
-use Rattle.steps.specs.Plain.{plainTable, plainJournal, plainTables, newRow, freeRow}
+use Rattle.steps.specs.Swept as swept
+use Rattle.steps.specs.Swept.{sweptTo, readDown}
 
 -- a sheet with the rows lent, and what 01 says of it: how it ends and at which edge, polygons, peak, records, the pairs in list order
 record Worked : Type 0 where
@@ -32,27 +33,8 @@ record Worked : Type 0 where
   records : ℕ
   pairs : List ℕ
 
-abbrev none : Pair
-none = record { polygon = 0; sequence = pos 0 }
-
-abbrev roomFor : Drawing → ℕ → Room ℕ (ℕ → Row ℕ) (ℕ → Record)
-roomFor sh rows =
-    record {
-      places = record { same = eqb; below = λ p q. ltb (sh .height p) (sh .height q); apart = sh .apart };
-      table = plainTable;
-      journal = plainJournal;
-      rows = rows;
-      records = 2 * sh .edges;
-    }
-
-abbrev sweptOn : Drawing → ℕ → Sweep (ℕ → Row ℕ) (ℕ → Record)
-sweptOn sh rows =
-    sweepUp (roomFor sh rows) (λ i. listEdge i (sh .tail i) (sh .head i))
-    (start (λ r. freeRow (newRow 0 0)) (λ k. record { level = 0; name = 0; chain = closing; offset = pos 0 }))
-    (sh .edges)
-
 abbrev readOf : State (ℕ → Row ℕ) (ℕ → Record) → Reading (ℕ → Pair) (ℕ → Pair)
-readOf s = sweepDown plainTables plainJournal (s .journal) (s .records) (record { table = λ r. none; answers = λ e. none; polygons = 0 })
+readOf s = readDown (s .journal) (s .records)
 
 abbrev sameEnd : End → End → Bool
 sameEnd Done Done = true
@@ -79,7 +61,7 @@ rightNumbers NoFreeRow s w = true
 rightNumbers Overrun s w = true
 
 right : Worked → Bool
-right w = both (sweptOn (drawingOf (map pos (w .list))) (w .rows))
+right w = both (sweptTo (drawingOf (map pos (w .list))) (w .rows) (length (w .list) / 4))
   where
     both : Sweep (ℕ → Row ℕ) (ℕ → Record) → Bool
     both s = sameEnd (s .state .end) (w .end) && (eqb (s .edge) (w .edge) && rightNumbers (s .state .end) (s .state) w)
@@ -143,4 +125,6 @@ unfolding
     plain.plainTable
     plain.plainJournal
     plain.plainTables
+    swept.sweptTo
+    swept.readDown
 all-sheets-right = refl

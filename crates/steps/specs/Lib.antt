@@ -3,3 +3,4 @@ pub mod Rows
 pub mod SweepUp
 pub mod SweepDown
 pub mod Plain
+pub mod Swept

@@ -1,7 +1,12 @@
 -- The sweep down (01, "The sweep down"): the records read last to first, with a look-up table by row names.
 use Prim.Native.Nat.{ℕ, zero, suc, _+_}
-use lib.IntN.{ℤ, _+ℤ_}
+use lib.IntN.{ℤ, pos, negsuc, _+ℤ_}
 use Rattle.steps.specs.Rows.{Chain, inRow, closing, Record, Journal}
+
+-- a number that is not below 0 as it is, 0 for any other
+unfoldable pub naturalPart : ℤ → ℕ
+naturalPart (pos n) = n
+naturalPart (negsuc n) = 0
 
 -- a polygon number and a sequence number
 pub record Pair : Type 0 where

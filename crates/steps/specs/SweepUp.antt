@@ -1,5 +1,6 @@
 -- The sweep up (01, "The sweep up"), step by step. An up edge works on the rising side of its row, a down edge on the falling side; everything is said
--- once, over the side. Names at or above the peak were never opened, so rows are looked for below it.
+-- once, over the side. Rows are looked for within the reach: all the rows there are, as 01 has it, or as far as rows have been opened, which comes to the
+-- same (proofs/Reaching.antt).
 use Prim.Native.Nat.{ℕ, zero, suc, _+_, max}
 use mathlib.Core.Bool.{Bool, true, false, not, _&&_}
 use lib.Dec.{eqb, ltb, leb}
@@ -20,19 +21,20 @@ levels = 12
 abbrev pub mostLength : ℕ
 mostLength = 2147483647
 
--- the two rooms, how many records are written, the peak, and how the last treatment ended
+-- the two rooms, how many records are written, how far rows are looked for, the peak, and how the last treatment ended
 pub record State (T J : Type 0) : Type 0 where
   pub rows : T
   pub journal : J
   pub records : ℕ
+  pub reach : ℕ
   pub peak : ℕ
   pub end : End
 
 abbrev pub ended : {T J : Type 0} → End → State T J → State T J
-ended e s = record { rows = s .rows; journal = s .journal; records = s .records; peak = s .peak; end = e }
+ended e s = record { rows = s .rows; journal = s .journal; records = s .records; reach = s .reach; peak = s .peak; end = e }
 
 abbrev pub withRows : {T J : Type 0} → T → State T J → State T J
-withRows t s = record { rows = t; journal = s .journal; records = s .records; peak = s .peak; end = s .end }
+withRows t s = record { rows = t; journal = s .journal; records = s .records; reach = s .reach; peak = s .peak; end = s .end }
 
 abbrev pub pickState : {T J : Type 0} → Bool → State T J → State T J → State T J
 pickState true s t = s
@@ -106,14 +108,15 @@ module _ {P T J : Type 0} (room : Room P T J) where
 
   -- step 1, and step 4 with the other side: the row found
   unfoldable pub find : State T J → ℕ → Side → P → Found
-  find s level side p = foundBelow (λ r. hasTip (room .places) level side p (look s r)) (s .peak)
+  find s level side p = foundBelow (λ r. hasTip (room .places) level side p (look s r)) (s .reach)
 
-  -- the lowest free row: below the peak, or the peak itself
+  -- the lowest free row: within the reach, or the one just past it
   unfoldable pub lowestFree : State T J → ℕ
-  lowestFree s = first (λ r. not (look s r .used)) (s .peak)
+  lowestFree s = first (λ r. not (look s r .used)) (s .reach)
 
+  -- how many rows are in use now
   unfoldable pub inUse : State T J → ℕ
-  inUse s = count (λ r. look s r .used) (s .peak)
+  inUse s = count (λ r. look s r .used) (s .reach)
 
   -- a row opened: both tips at the place, both lengths 0, both unfinished. The peak is the largest number of rows in use.
   unfoldable pub open-row : State T J → ℕ → ℕ → P → State T J
@@ -122,6 +125,7 @@ module _ {P T J : Type 0} (room : Room P T J) where
         rows = room .table .opened (s .rows) r level p;
         journal = s .journal;
         records = s .records;
+        reach = max (s .reach) (r + 1);
         peak = max (s .peak) (inUse s + 1);
         end = s .end;
       }
@@ -133,6 +137,7 @@ module _ {P T J : Type 0} (room : Room P T J) where
         rows = s .rows;
         journal = room .journal .written (s .journal) (s .records) entry;
         records = s .records + 1;
+        reach = s .reach;
         peak = s .peak;
         end = s .end;
       }
@@ -233,6 +238,6 @@ module _ {P T J : Type 0} (room : Room P T J) where
 abbrev pub listEdge : {P : Type 0} → ℕ → P → P → LevelEdge P
 listEdge i tail head = record { name = i; tail = tail; head = head; length = record { rising = 1; falling = 0 } }
 
--- before the first edge nothing is written and no row was ever open
-abbrev pub start : {T J : Type 0} → T → J → State T J
-start t j = record { rows = t; journal = j; records = 0; peak = 0; end = Done }
+-- before the first edge nothing is written and no row was ever open; rows are looked for as far as said
+abbrev pub start : {T J : Type 0} → ℕ → T → J → State T J
+start reach t j = record { rows = t; journal = j; records = 0; reach = reach; peak = 0; end = Done }

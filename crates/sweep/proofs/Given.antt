@@ -11,7 +11,8 @@ use lib.Seq.{length-sets}
 use lib.Signed.{mag}
 use Rattle.laws.proofs.Deciding.{lt-or-le}
 use Rattle.laws.proofs.Sets.{getD-sets-other, getD-sets-in}
-use Rattle.journal.specs.Layout.{fitting, naturalPart}
+use Rattle.steps.specs.SweepDown.{naturalPart}
+use Rattle.journal.specs.Layout.{fitting}
 use Rattle.steps.specs.SweepDown.{Pair}
 use Rattle.sweep.specs.Lookup.{narrowed, numbersIn, givenIn}
 use Rattle.sweep.proofs.Sums.{narrowed-held}

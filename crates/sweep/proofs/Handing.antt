@@ -9,7 +9,8 @@ use lib.Seq.{sets}
 use lib.Signed.{mag}
 use Rattle.steps.specs.Rows.{Chain, inRow, closing, Record}
 use Rattle.steps.specs.SweepDown as steps
-use Rattle.journal.specs.Layout.{fitting, naturalPart, recordAt, recordSlice}
+use Rattle.steps.specs.SweepDown.{naturalPart}
+use Rattle.journal.specs.Layout.{fitting, recordAt, recordSlice}
 use Rattle.sweep.specs.Lookup.{Answers, narrowed, numbersIn, givenIn, answeredIn, tables, reading}
 use Rattle.sweep.proofs.Sums.{narrowed-held}
 

@@ -12,7 +12,7 @@ use mir.ValLaws.{toZ-ofZ}
 use borrow.Author.Tests.{lt-ltb, le-ltb, ltb-true, ltb-false}
 use Rattle.laws.proofs.Deciding.{not-both}
 use Rattle.sheet.proofs.Signed.{read-back}
-use Rattle.journal.specs.Layout.{naturalPart}
+use Rattle.steps.specs.SweepDown.{naturalPart}
 use Rattle.sweep.specs.Lookup.{narrowed}
 
 either-small : (n : ℕ) (t : Bool) (x y : ℕ) → x ≤ n → y ≤ n → mag (cond t (negsuc x) (pos y)) ≤ n

@@ -10,7 +10,8 @@ use lib.ListN.{getD, set}
 use lib.Seq.{sets}
 use lib.Signed.{mag}
 use Rattle.steps.specs.SweepDown.{Pair, Tables, Reading}
-use Rattle.journal.specs.Layout.{fitting, naturalPart}
+use Rattle.steps.specs.SweepDown.{naturalPart}
+use Rattle.journal.specs.Layout.{fitting}
 
 -- the polygon numbers and the sequence numbers of the edges
 pub record Answers : Type 0 where

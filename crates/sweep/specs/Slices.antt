@@ -26,8 +26,9 @@ room n m = record { places = pointPlaces; table = rows.rowSlice; journal = journ
 abbrev pub lentRoom : List ℤ → List ℤ → Room Point (List ℤ) (List ℤ)
 lentRoom a b = room (rowsIn a) (recordsIn b)
 
+-- the code looks for rows only as far as they have been opened, and as the lowest free row is opened that is the peak: one number serves for both
 abbrev pub state : List ℤ → List ℤ → Progress → State (List ℤ) (List ℤ)
-state a b s = record { rows = a; journal = b; records = s .records; peak = s .peak; end = s .end }
+state a b s = record { rows = a; journal = b; records = s .records; reach = s .peak; peak = s .peak; end = s .end }
 
 abbrev pub edgeOf : NamedEdge → LevelEdge Point
 edgeOf e = record { name = e .name; tail = e .tail; head = e .head; length = record { rising = e .rising; falling = e .falling } }

@@ -9,7 +9,8 @@ ghost use lib.ListN.{length, getD, set};
 ghost use lib.Seq.{sets};
 ghost use Rattle.steps.specs.Rows.{inRow};
 ghost use Rattle.steps.specs.SweepDown as steps;
-ghost use Rattle.journal.specs.Layout.{HasRecord, fitting, naturalPart, recordAt, recordSlice};
+ghost use Rattle.steps.specs.SweepDown.{naturalPart};
+ghost use Rattle.journal.specs.Layout.{HasRecord, fitting, recordAt, recordSlice};
 ghost use Rattle.sweep.specs.Lookup.{narrowed, numbersIn, tables, reading};
 
 // The number at a place, 0 past the end.

@@ -34,7 +34,7 @@ fn list_edge(edges: &[i32], i: usize) -> NamedEdge
 // The first n edges of the list, until one is not done.
 pub fn sweep_up(edges: &[i32], n: usize, journal: &mut [i32], rows: &mut [i32]) -> Swept
     requires { ⌜ 4 * n ≤ length (now edges) ⌝ }
-    ensures { λ w. ⌜ swept (now (rows .exit)) (now (journal .exit)) w ≡ sweepUp (lentRoom (now (rows .entry)) (now (journal .entry))) (listEdges (now (edges .entry))) (start (now (rows .entry)) (now (journal .entry))) n ⌝ }
+    ensures { λ w. ⌜ swept (now (rows .exit)) (now (journal .exit)) w ≡ sweepUp (lentRoom (now (rows .entry)) (now (journal .entry))) (listEdges (now (edges .entry))) (start 0 (now (rows .entry)) (now (journal .entry))) n ⌝ }
     ensures { λ w. ⌜ 4 * w .progress .records ≤ length (now (journal .entry)) ⌝ }
 {
     let mut s = Progress {

@@ -20,7 +20,7 @@ Inv-loop edges n journal₀ rows₀ s₀ marks₀ edge₀ i₀ journal rows s ma
     (i ≤ n)
     × (length rows ≡ length rows₀)
     × (length journal ≡ length journal₀)
-    × (swept rows journal (record { progress = s; edge = edge }) ≡ sweepUp (lentRoom rows₀ journal₀) (listEdges edges) (start rows₀ journal₀) i)
+    × (swept rows journal (record { progress = s; edge = edge }) ≡ sweepUp (lentRoom rows₀ journal₀) (listEdges edges) (start 0 rows₀ journal₀) i)
     × (isDone (s .end) ≡ true)
     × Marked marks rows (s .peak)
 
@@ -37,7 +37,7 @@ treated : (c : tie.After-treat Inv-loop μ-loop) →
     let c₆ = c .before .before .before .before .before .before in
     let g = c₆ .before .args in
     swept (t .last .0) (t .last .1 .0) (record { progress = t .result; edge = c₆ .loop .i })
-    ≡ sweepUp (lentRoom (g .rows .now) (g .journal .now)) (listEdges (g .edges .now)) (start (g .rows .now) (g .journal .now)) (c₆ .loop .i + 1)
+    ≡ sweepUp (lentRoom (g .rows .now) (g .journal .now)) (listEdges (g .edges .now)) (start 0 (g .rows .now) (g .journal .now)) (c₆ .loop .i + 1)
 treated c =
     let c₁ = c .before in
     let c₆ = c₁ .before .before .before .before .before in

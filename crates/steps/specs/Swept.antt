@@ -1,0 +1,46 @@
+-- The two sweeps of a drawing as document 01 runs them, on plain tables: all rows are free at the start, all of them are looked at, and the journal has
+-- room for two records an edge, which is what refusal 4 asks for.
+use Prim.Native.Nat.{ℕ, _*_, _<_}
+use mathlib.Core.Path.{_≡_}
+use lib.Dec.{eqb, ltb}
+use lib.IntN.{pos}
+use Rattle.sheet.specs.Edges.{Drawing}
+use Rattle.steps.specs.declared.End.the-variants.{Done, NoFreeRow}
+use Rattle.steps.specs.Rows.{Row, closing, Record, LevelEdge, Places, Room}
+use Rattle.steps.specs.SweepUp.{Sweep, levels, treat, sweepUp, listEdge, start}
+use Rattle.steps.specs.SweepDown.{Pair, Reading, sweepDown}
+use Rattle.steps.specs.Plain.{newRow, freeRow, plainTable, plainJournal, plainTables}
+
+abbrev pub placesOf : Drawing → Places ℕ
+placesOf sh = record { same = eqb; below = λ p q. ltb (sh .height p) (sh .height q); apart = sh .apart }
+
+abbrev pub plainRoom : Drawing → ℕ → ℕ → Room ℕ (ℕ → Row ℕ) (ℕ → Record)
+plainRoom sh rows records = record { places = placesOf sh; table = plainTable; journal = plainJournal; rows = rows; records = records }
+
+-- the drawing's edges at level 0
+abbrev pub edgeOf : Drawing → ℕ → LevelEdge ℕ
+edgeOf sh i = listEdge i (sh .tail i) (sh .head i)
+
+-- before the first edge
+abbrev pub freeRows : ℕ → Row ℕ
+freeRows r = freeRow (newRow 0 0)
+
+abbrev pub noRecords : ℕ → Record
+noRecords k = record { level = 0; name = 0; chain = closing; offset = pos 0 }
+
+abbrev pub noPairs : ℕ → Pair
+noPairs e = record { polygon = 0; sequence = pos 0 }
+
+-- the first k edges swept up with so many rows
+unfoldable pub sweptTo : Drawing → ℕ → ℕ → Sweep (ℕ → Row ℕ) (ℕ → Record)
+sweptTo sh rows k = sweepUp (plainRoom sh rows (2 * sh .edges)) (edgeOf sh) (start rows freeRows noRecords) k
+
+-- the records read down
+unfoldable pub readDown : (ℕ → Record) → ℕ → Reading (ℕ → Pair) (ℕ → Pair)
+readDown j n = sweepDown plainTables plainJournal j n (record { table = noPairs; answers = noPairs; polygons = 0 })
+
+-- step 1 finds no free row while edge e of the list is treated: the edges before it are treated, and its own treatment ends so
+pub record LacksRow (sh : Drawing) (rows e : ℕ) : Type 0 where
+  pub is-edge : e < sh .edges
+  pub before : sweptTo sh rows e .state .end ≡ Done
+  pub lacking : treat (plainRoom sh rows (2 * sh .edges)) levels 0 (sweptTo sh rows e .state) (edgeOf sh e) .end ≡ NoFreeRow
