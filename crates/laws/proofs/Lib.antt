@@ -15,4 +15,5 @@ pub mod Filling
 pub mod Moving
 pub mod Sets
 pub mod Zeros
+pub mod Listing
 pub mod Bits

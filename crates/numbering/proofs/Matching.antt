@@ -15,11 +15,13 @@ use Rattle.laws.proofs.Sets.{getD-sets-other, getD-sets-in}
 use Rattle.sheet.specs.declared.Point.{Point}
 use Rattle.sheet.specs.Points.{inRange}
 use Rattle.sheet.specs.Rank.{rank}
+use Rattle.sheet.specs.Edges.{drawingOf}
 use Rattle.sheet.proofs.Ranks.{rank-below, rank-same}
 use Rattle.steps.specs.declared.Side.{Side}
 use Rattle.steps.specs.declared.Side.the-variants.{Rising, Falling}
-use Rattle.steps.specs.Rows.{on, with, Branch, Row, Chain, inRow, closing, Record, Room}
+use Rattle.steps.specs.Rows.{on, with, Branch, Row, Chain, inRow, closing, Record, chainNumber, recordNumbers, Room}
 use Rattle.steps.specs.Plain.{put, newRow, withBranch, finishedBranch, freeRow, plainTable, plainJournal}
+use Rattle.steps.specs.Swept.{plainRoom}
 use Rattle.steps.proofs.Alike.{AlikeBranch, AlikeRow, SmallChain, SmallRecord, Match}
 use Rattle.rows.specs.Layout as rows
 use Rattle.rows.specs.Layout.{pointPlaces, lookRow, openedIn, movedIn, finishedIn, freedIn}
@@ -33,15 +35,12 @@ pub record Ranked (p : Point) (q : ℕ) : Type 0 where
   pub inside : inRange p ≡ true
   pub is-rank : rank p ≡ q
 
--- a slice of n rows holds a table in its first k rows
+-- a slice of n rows holds a table in its first k rows; the other rows of the table are free
 pub record HoldsRows (n k : ℕ) (s : List ℤ) (t : ℕ → Row ℕ) : Type 0 where
   pub long : 8 * n ≤ length s
   pub inside : k ≤ n
   pub row : (r : ℕ) → r < k → AlikeRow Ranked (lookRow s r) (t r)
-
--- the four numbers of a record
-abbrev pub recordNumbers : Record → List ℤ
-recordNumbers e = pos (fitting (e .level)) ∷ pos (fitting (e .name)) ∷ rowNumber (e .chain) ∷ e .offset ∷ []
+  pub free : (r : ℕ) → k ≤ r → r < n → t r .used ≡ false
 
 -- a slice holds the first k records, and has room for m
 pub record HoldsRecords (m k : ℕ) (s : List ℤ) (j : ℕ → Record) : Type 0 where
@@ -67,31 +66,32 @@ branch-alike {row} {row′} a s {b} {b′} h = record { used = a .used; level = 
     by Falling Falling = h
 
 -- one row changed on both sides, and so many rows held after it
-one-row : {n k k′ : ℕ} {s : List ℤ} {t : ℕ → Row ℕ} → HoldsRows n k s t → (r : ℕ) → k′ ≤ n → ((q : ℕ) → (q ≡ r → ⊥) → q < k′ → q < k) → {u : List ℤ} → OnlyRow s u r → (row : Row ℕ) → AlikeRow Ranked (lookRow u r) row → HoldsRows n k′ u (put t r row)
-one-row H r m w {u} o row a =
+one-row : {n k k′ : ℕ} {s : List ℤ} {t : ℕ → Row ℕ} → HoldsRows n k s t → (r : ℕ) → k′ ≤ n → r < k′ → k ≤ k′ → ((q : ℕ) → (q ≡ r → ⊥) → q < k′ → q < k) → {u : List ℤ} → OnlyRow s u r → (row : Row ℕ) → AlikeRow Ranked (lookRow u r) row → HoldsRows n k′ u (put t r row)
+one-row {t = t} H r m b c w {u} o row a =
     record {
       long = omega (arith, H .long, o .kept);
       inside = m;
       row = λ q h. ⊎-elim (λ e. rw (eq-eqb q r e, e) a) (λ d. rw (ne-eqb q r d, other-row o q d) (H .row q (w q d h))) (eq-or-ne q r);
+      free = λ q h v. ap (λ z. cond z row (t q) .used) (ne-eqb q r (λ e. omega arith)) ∙ H .free q (omega arith) v;
     }
 
 opened-holds : {n k : ℕ} {s : List ℤ} {t : ℕ → Row ℕ} → HoldsRows n k s t → (r level : ℕ) → r ≤ k → r < n → {p : Point} {q : ℕ} → Ranked p q → HoldsRows n (max k (r + 1)) (openedIn s r level p) (put t r (newRow level q))
 opened-holds {n} {k} {s} H r level l m {p} h =
-    one-row H r (omega (arith, H .inside)) (λ q d u. omega (arith, d, u, l)) (opened-only s r level p) _ (rw (opened-here s r (omega (arith, H .long)) level p) (new-alike level h))
+    one-row H r (omega (arith, H .inside)) (omega arith) (omega arith) (λ q d u. omega (arith, d, u, l)) (opened-only s r level p) _ (rw (opened-here s r (omega (arith, H .long)) level p) (new-alike level h))
 
 module _ {n k : ℕ} {s : List ℤ} {t : ℕ → Row ℕ} (H : HoldsRows n k s t) (r : ℕ) (l : r < k) where
   moved-holds : (side : Side) {p : Point} {q : ℕ} (m : ℕ) → Ranked p q → HoldsRows n k (movedIn s r side p m) (put t r (withBranch (t r) side (record { tip = q; length = m; finished = false })))
-  moved-holds side {p} m h = one-row H r (H .inside) (λ q d u. u) (moved-only s r side p m) _ (rw (moved-here s r (omega (arith, H .long, H .inside)) p m side) (branch-alike (H .row r l) side (record { tip = h; length = refl; finished = refl })))
+  moved-holds side {p} m h = one-row H r (H .inside) l (omega arith) (λ q d u. u) (moved-only s r side p m) _ (rw (moved-here s r (omega (arith, H .long, H .inside)) p m side) (branch-alike (H .row r l) side (record { tip = h; length = refl; finished = refl })))
 
   finished-holds : (side : Side) → HoldsRows n k (finishedIn s r side) (put t r (withBranch (t r) side (finishedBranch (on side (t r .branch)))))
   finished-holds side =
       let b = H .row r l .branch side in
-      one-row H r (H .inside) (λ q d u. u) (finished-only s r side) _ (rw (finished-here s r (omega (arith, H .long, H .inside)) side) (branch-alike (H .row r l) side (record { tip = b .tip; length = b .length; finished = refl })))
+      one-row H r (H .inside) l (omega arith) (λ q d u. u) (finished-only s r side) _ (rw (finished-here s r (omega (arith, H .long, H .inside)) side) (branch-alike (H .row r l) side (record { tip = b .tip; length = b .length; finished = refl })))
 
   freed-holds : HoldsRows n k (freedIn s r) (put t r (freeRow (t r)))
   freed-holds =
       let a = H .row r l in
-      one-row H r (H .inside) (λ q d u. u) (freed-only s r) _ (rw (freed-here s r (omega (arith, H .long, H .inside))) (record { used = refl; level = a .level; branch = a .branch }))
+      one-row H r (H .inside) l (omega arith) (λ q d u. u) (freed-only s r) _ (rw (freed-here s r (omega (arith, H .long, H .inside))) (record { used = refl; level = a .level; branch = a .branch }))
 
 short-chain : (c : Chain) {most : ℕ} → most < 2147483648 → SmallChain most c → ShortChain c
 short-chain (inRow r) l h = omega arith
@@ -103,13 +103,28 @@ put-here j k e i h = ap (λ t. cond t e (j i)) (eq-eqb i k h)
 put-there : (j : ℕ → Record) (k : ℕ) (e : Record) (i : ℕ) → (i ≡ k → ⊥) → put j k e i ≡ j i
 put-there j k e i h = ap (λ t. cond t e (j i)) (ne-eqb i k h)
 
-written-number : (s : List ℤ) (k : ℕ) (e : Record) → 4 * k + 4 ≤ length s → (q : ℕ) → q < 4 → getD (writtenIn s k e) (4 * k + q) (pos 0) ≡ getD (recordNumbers e) q (pos 0)
+-- a record's numbers as they are written, and as they are where they are small
+abbrev fittingNumbers : Record → List ℤ
+fittingNumbers e = pos (fitting (e .level)) ∷ pos (fitting (e .name)) ∷ rowNumber (e .chain) ∷ e .offset ∷ []
+
+fits-chain : (c : Chain) {most : ℕ} → most < 2147483648 → SmallChain most c → rowNumber c ≡ chainNumber c
+unfolding rowNumber
+fits-chain (inRow r) l h = ap pos (omega arith)
+fits-chain closing l h = refl
+
+fitting-same : (e : Record) {most : ℕ} → most < 2147483648 → SmallRecord most e → fittingNumbers e ≡ recordNumbers e
+fitting-same e u h =
+    let a : fitting (e .level) ≡ e .level = omega (arith, h .level) in
+    let b : fitting (e .name) ≡ e .name = omega (arith, h .name) in
+    λ i. pos (a i) ∷ pos (b i) ∷ fits-chain (e .chain) u (h .chain) i ∷ e .offset ∷ []
+
+written-number : (s : List ℤ) (k : ℕ) (e : Record) {most : ℕ} → most < 2147483648 → SmallRecord most e → 4 * k + 4 ≤ length s → (q : ℕ) → q < 4 → getD (writtenIn s k e) (4 * k + q) (pos 0) ≡ getD (recordNumbers e) q (pos 0)
 unfolding writtenIn
-written-number s k e h q l = getD-sets-in (pos 0) (recordNumbers e) s (4 * k) q l h
+written-number s k e u m h q l = getD-sets-in (pos 0) (fittingNumbers e) s (4 * k) q l h ∙ ap (λ v. getD v q (pos 0)) (fitting-same e u m)
 
 other-number : (s : List ℤ) (k i : ℕ) (e : Record) → (i ≡ k → ⊥) → (q : ℕ) → q < 4 → getD (writtenIn s k e) (4 * i + q) (pos 0) ≡ getD s (4 * i + q) (pos 0)
 unfolding writtenIn
-other-number s k i e d q l = getD-sets-other (pos 0) (recordNumbers e) s (4 * k) (4 * i + q) (⊎-elim (λ b. inl (omega arith)) (λ b. inr (omega (arith, d))) (lt-or-le i k))
+other-number s k i e d q l = getD-sets-other (pos 0) (fittingNumbers e) s (4 * k) (4 * i + q) (⊎-elim (λ b. inl (omega arith)) (λ b. inr (omega (arith, d))) (lt-or-le i k))
 
 written-holds : {m k : ℕ} {s : List ℤ} {j : ℕ → Record} {entry : Record} {most : ℕ} → most < 2147483648 → HoldsRecords m k s j → k < m → SmallRecord most entry → HoldsRecords m (k + 1) (writtenIn s k entry) (put j k entry)
 written-holds {m} {k} {s} {j} {entry} lm H l h =
@@ -120,32 +135,30 @@ written-holds {m} {k} {s} {j} {entry} lm H l h =
           (λ d. rw (ne-eqb i k d, written-elsewhere s k entry i d) (H .entry i (omega (arith, d))))
           (eq-or-ne i k);
       number = λ i q u v. ⊎-elim
-          (λ e. ap (λ x. getD (writtenIn s k entry) (4 * x + q) (pos 0)) e ∙ written-number s k entry (omega (arith, H .long)) q v ∙ sym (ap (λ r. getD (recordNumbers r) q (pos 0)) (put-here j k entry i e)))
+          (λ e. ap (λ x. getD (writtenIn s k entry) (4 * x + q) (pos 0)) e ∙ written-number s k entry lm h (omega (arith, H .long)) q v ∙ sym (ap (λ r. getD (recordNumbers r) q (pos 0)) (put-here j k entry i e)))
           (λ d. other-number s k i entry d q v ∙ H .number i q (omega (arith, d)) v ∙ sym (ap (λ r. getD (recordNumbers r) q (pos 0)) (put-there j k entry i d)))
           (eq-or-ne i k);
     }
 
--- the two rooms, with as many rows and records
+-- the room of the slices, with so many rows and records, and that of the plain tables of a list
 abbrev pub sliceRoom : ℕ → ℕ → Room Point (List ℤ) (List ℤ)
 sliceRoom n m = record { places = pointPlaces; table = rows.rowSlice; journal = journal.recordSlice; rows = n; records = m }
 
-abbrev pub plainRoom : ℕ → ℕ → Room ℕ (ℕ → Row ℕ) (ℕ → Record)
-plainRoom n m = record { places = record { same = eqb; below = ltb; apart = λ p. false }; table = plainTable; journal = plainJournal; rows = n; records = m }
-
-pub matched : (n m most : ℕ) → m ≤ most → most < 2147483648 → Match (sliceRoom n m) (plainRoom n m) Ranked (HoldsRows n) (HoldsRecords m) most
-unfolding pointPlaces rows.rowSlice journal.recordSlice plainTable plainJournal
-matched n m most l u =
+pub matched : (list : List ℤ) (n m m′ most : ℕ) → m ≡ m′ → m ≤ most → most < 2147483648 → Match (sliceRoom n m) (plainRoom (drawingOf list) n m′) Ranked (HoldsRows n) (HoldsRecords m) most n
+unfolding pointPlaces rows.rowSlice journal.recordSlice plainTable plainJournal drawingOf
+matched list n m m′ most e l u =
     record {
       same = λ h k. rank-same _ _ (h .inside) (k .inside) ∙ λ i. eqb (h .is-rank i) (k .is-rank i);
       below = λ h k. rank-below _ _ (h .inside) (k .inside) ∙ λ i. ltb (h .is-rank i) (k .is-rank i);
       apart = λ h. refl;
       look = λ H r v. H .row r v;
+      unopened = λ H r v w. H .free r v w;
       opened = λ H h r level l v. opened-holds H r level l v h;
       moved = λ H h r side k v. moved-holds H r v side k h;
       finished = λ H r side v. finished-holds H r v side;
       freed = λ H r v. freed-holds H r v;
       written = λ H v h. written-holds u H v h;
       rows = refl;
-      records = refl;
+      records = e;
       names = l;
     }

@@ -17,7 +17,7 @@ use Rattle.sheet.specs.Edges.{drawingOf}
 use Rattle.sheet.specs.Answers.{checked, followedByZeros}
 use Rattle.sheet.proofs.OneNumbering.{same-polygon, same-sequence, same-polygons}
 use Rattle.checks.proofs.Passed.{passed}
-use Rattle.rows.specs.Layout.{rowsIn}
+use Rattle.steps.specs.Swept.{rowsIn}
 use Rattle.journal.specs.Layout.{recordsIn}
 use Rattle.steps.specs.declared.End.the-variants.{Done, NoFreeRow}
 use Rattle.steps.specs.Rows.{Row, Record}

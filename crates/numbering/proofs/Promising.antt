@@ -15,7 +15,7 @@ use Rattle.sheet.specs.Edges.{edgesIn, drawingOf}
 use Rattle.sheet.specs.Numbering.{Numbering}
 use Rattle.sheet.specs.Passing.{Enough}
 use Rattle.sheet.specs.Answers.{checked}
-use Rattle.rows.specs.Layout.{rowsIn}
+use Rattle.steps.specs.Swept.{rowsIn}
 use Rattle.steps.specs.declared.End.{End}
 use Rattle.steps.specs.declared.End.the-variants.{Done, NoFreeRow}
 use Rattle.numbering.specs.Outcome.{Lent, Left, callOf, inJournal, sweptUp, readDown, refused, accepted, afterSweep, sweeps, wholeJournal, afterChecks, outcome}

@@ -21,7 +21,7 @@ use Rattle.steps.specs.SweepDown.{Pair, Reading}
 use Rattle.steps.specs.Plain.{newRow, plainTables, plainJournal}
 use Rattle.steps.proofs.Alike.{Match, Alike, AlikeSweep, start-alike, sweep-alike}
 use Rattle.steps.proofs.AlikeDown.{MatchDown, AlikeReading, down-alike}
-use Rattle.rows.specs.Layout.{rowsIn}
+use Rattle.steps.specs.Swept.{rowsIn}
 use Rattle.steps.specs.SweepDown.{naturalPart}
 use Rattle.journal.specs.Layout.{recordSlice, recordsIn}
 use Rattle.sweep.specs.Slices.{room}

@@ -1,23 +1,20 @@
--- What a whole call of the numbering answers and leaves in every lent slice: the checks, the two sweeps on the slices, the answer sheet.
-use Prim.Native.Nat.{ℕ, _*_}
+-- What a whole call of the numbering answers and leaves in every lent slice (01, "The answer sheet"): the checks, then the two sweeps of crates/steps on
+-- plain tables. How a row lies in its slice is no part of it.
+use Prim.Native.Nat.{ℕ}
 use mathlib.Core.List.{List}
 use lib.IntN.{ℤ}
-use lib.ListN.{length, take}
+use lib.ListN.{length}
+use Rattle.laws.specs.Listing.{listed, listOf}
 use Rattle.sheet.specs.declared.Answer.{Answer}
-use Rattle.sheet.specs.declared.Answer.the-variants as answer
-use Rattle.sheet.specs.declared.Check.{Check}
-use Rattle.sheet.specs.declared.Check.the-variants as check
-use Rattle.sheet.specs.declared.Refusal.{Refusal}
-use Rattle.sheet.specs.declared.Refusal.the-variants.{NoRow}
-use Rattle.sheet.specs.Edges.{edgeAt, edgesIn}
-use Rattle.sheet.specs.Answers.{Call, checked, zeros, afterRefusal, followedByZeros}
+use Rattle.sheet.specs.declared.Answer.the-variants.{Accepted, Refused}
+use Rattle.sheet.specs.Edges.{edgesIn, drawingOf}
+use Rattle.sheet.specs.Answers.{Call, checked, Ending, finished, noFreeRow, answered, zeros, afterRefusal, followedByZeros}
 use Rattle.steps.specs.declared.End.{End}
 use Rattle.steps.specs.declared.End.the-variants.{Done, NoFreeRow, Overrun}
-use Rattle.steps.specs.SweepUp.{Sweep, sweepUp, listEdge, start}
-use Rattle.steps.specs.SweepDown.{Reading, sweepDown}
-use Rattle.journal.specs.Layout.{recordSlice}
-use Rattle.sweep.specs.Slices.{lentRoom}
-use Rattle.sweep.specs.Lookup.{Answers, tables, reading}
+use Rattle.steps.specs.Rows.{Row, Record, recordNumbers}
+use Rattle.steps.specs.SweepUp.{Sweep}
+use Rattle.steps.specs.SweepDown.{naturalPart, Pair, Reading}
+use Rattle.steps.specs.Swept.{rowsIn, sweptTo, readDown}
 
 -- the five slices as they are lent
 pub record Lent : Type 0 where
@@ -38,51 +35,34 @@ pub record Left : Type 0 where
 abbrev pub callOf : Lent → Call
 callOf l = record { list = l .list; polygons = length (l .polygons); sequences = length (l .sequences); journal = length (l .journal) }
 
-unfoldable pub sweptUp : Lent → Sweep (List ℤ) (List ℤ)
-sweptUp l =
-    sweepUp (lentRoom (l .rows) (l .journal)) (λ i. listEdge i (edgeAt (l .list) i .tail) (edgeAt (l .list) i .head)) (start (l .rows) (l .journal)) (edgesIn (l .list))
+-- the list swept up with the rows lent, and its records read down
+unfoldable pub up : Lent → Sweep (ℕ → Row ℕ) (ℕ → Record)
+up l = sweptTo (drawingOf (l .list)) (rowsIn (l .rows)) (edgesIn (l .list))
 
--- the records read down, with the rows' slice as look-up table
-unfoldable pub readDown : Lent → Sweep (List ℤ) (List ℤ) → Reading (List ℤ) Answers
-readDown l w = sweepDown tables recordSlice (w .state .journal) (w .state .records) (reading (w .state .rows) (l .polygons) (l .sequences) 0)
+unfoldable pub down : Lent → Reading (ℕ → Pair) (ℕ → Pair)
+down l = readDown (up l .state .journal) (up l .state .records)
 
--- a refusal leaves the two number lists, and journal and rows as the answer sheet says
-abbrev pub refused : Lent → Refusal → Left
-refused l r = record { answer = answer.Refused r; polygons = l .polygons; sequences = l .sequences; journal = afterRefusal r (l .journal); rows = afterRefusal r (l .rows) }
+-- What the steps end with. An overrun never comes where the checks are passed: `lacks-row` in Promised says that 10 is a missing row.
+abbrev pub endingBy : Lent → End → Ending
+endingBy l Done = finished (down l .polygons) (up l .state .peak) (up l .state .records)
+endingBy l NoFreeRow = noFreeRow (up l .edge)
+endingBy l Overrun = noFreeRow (up l .edge)
 
-abbrev pub accepted : Lent → Sweep (List ℤ) (List ℤ) → Reading (List ℤ) Answers → Left
-accepted l w d =
+-- what an answer leaves in the slices
+abbrev pub leaves : Lent → Answer → Left
+leaves l (Refused r) =
+    record { answer = Refused r; polygons = l .polygons; sequences = l .sequences; journal = afterRefusal r (l .journal); rows = afterRefusal r (l .rows) }
+leaves l (Accepted polygons peak records) =
     record {
-      answer = answer.Accepted (d .polygons) (w .state .peak) (w .state .records);
-      polygons = d .answers .polygons;
-      sequences = d .answers .sequences;
-      journal = followedByZeros (take (4 * w .state .records) (w .state .journal)) (length (l .journal));
+      answer = Accepted polygons peak records;
+      polygons = listOf (λ e. down l .answers e .polygon) (edgesIn (l .list));
+      sequences = listOf (λ e. naturalPart (down l .answers e .sequence)) (edgesIn (l .list));
+      journal = followedByZeros (listed (λ k. recordNumbers (up l .state .journal k)) records) (length (l .journal));
       rows = zeros (l .rows);
     }
 
--- Overrun does not come for a list that passed its checks (crates/hartley); it is answered as a missing row is.
-abbrev pub afterSweep : Lent → Sweep (List ℤ) (List ℤ) → End → Left
-afterSweep l w Done = accepted l w (readDown l w)
-afterSweep l w NoFreeRow = refused l (NoRow (w .edge))
-afterSweep l w Overrun = refused l (NoRow (w .edge))
-
-unfoldable pub sweeps : Lent → Left
-sweeps l = afterSweep l (sweptUp l) (sweptUp l .state .end)
-
--- the sweeps work in the journal's first eight numbers an edge, and what lies behind is set to zero
-abbrev pub inJournal : Lent → Lent
-inJournal l = record { list = l .list; polygons = l .polygons; sequences = l .sequences; journal = take (8 * edgesIn (l .list)) (l .journal); rows = l .rows }
-
-abbrev pub wholeJournal : ℕ → Left → Left
-wholeJournal n x =
-    record { answer = x .answer; polygons = x .polygons; sequences = x .sequences; journal = followedByZeros (x .journal) n; rows = x .rows }
-
-abbrev pub afterChecks : Lent → Check → Left
-afterChecks l (check.Refused r) = refused l r
-afterChecks l check.Passed = wholeJournal (length (l .journal)) (sweeps (inJournal l))
-
 unfoldable pub outcome : Lent → Left
-outcome l = afterChecks l (checked (callOf l))
+outcome l = leaves l (answered (checked (callOf l)) (endingBy l (up l .state .end)))
 
 -- the slices by name
 abbrev pub lent : List ℤ → List ℕ → List ℕ → List ℤ → List ℤ → Lent

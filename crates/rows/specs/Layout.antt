@@ -19,10 +19,7 @@ use Rattle.steps.specs.Rows.{Branch, Row, Places, Table}
 unfoldable pub pointPlaces : Places Point
 pointPlaces = record { same = isSame; below = isBelow; apart = λ p. false }
 
--- how many rows a slice has, and that it has row r: a part of a row at the end is no row
-abbrev pub rowsIn : List ℤ → ℕ
-rowsIn s = length s / 8
-
+-- that a slice has row r
 abbrev pub HasRow : List ℤ → ℕ → Type 0
 HasRow s r = 8 * r + 8 ≤ length s
 

@@ -16,7 +16,8 @@ ghost use Rattle.laws.specs.Counting.{first};
 ghost use Rattle.sheet.specs.Points.{isSame};
 ghost use Rattle.steps.specs.Rows.{on};
 ghost use Rattle.steps.specs.SweepUp.{foundBelow, hasTip, bothFinished};
-ghost use Rattle.rows.specs.Layout.{pointPlaces, rowsIn, HasRow, branchAt, freedNumber, lookRow, openedIn, movedIn, finishedIn, freedIn};
+ghost use Rattle.rows.specs.Layout.{pointPlaces, HasRow, branchAt, freedNumber, lookRow, openedIn, movedIn, finishedIn, freedIn};
+ghost use Rattle.steps.specs.Swept.{rowsIn};
 ghost use Rattle.rows.specs.Marks.{Marked};
 
 // How many numbers a row has.

@@ -2,7 +2,8 @@
 -- Places P, tables T and journals J are left open: the code has points and slices, the theory natural numbers and functions.
 use Prim.Native.Nat.{ℕ}
 use mathlib.Core.Bool.{Bool}
-use lib.IntN.{ℤ}
+use mathlib.Core.List.{List, [], _∷_}
+use lib.IntN.{ℤ, pos, negsuc}
 use Rattle.steps.specs.declared.Side.{Side}
 use Rattle.steps.specs.declared.Side.the-variants.{Rising, Falling}
 
@@ -45,6 +46,14 @@ pub record Record : Type 0 where
   pub name : ℕ
   pub chain : Chain
   pub offset : ℤ
+
+-- a record is four numbers: level, name, row or -1 for a closing edge, offset
+abbrev pub chainNumber : Chain → ℤ
+chainNumber (inRow r) = pos r
+chainNumber closing = negsuc 0
+
+abbrev pub recordNumbers : Record → List ℤ
+recordNumbers e = pos (e .level) ∷ pos (e .name) ∷ chainNumber (e .chain) ∷ e .offset ∷ []
 
 -- an edge of any level: its name, its ends, and its lengths (1 rising and 0 falling for an edge of the list)
 pub record LevelEdge (P : Type 0) : Type 0 where

@@ -1,9 +1,11 @@
 -- The two sweeps of a drawing as document 01 runs them, on plain tables: all rows are free at the start, all of them are looked at, and the journal has
 -- room for two records an edge, which is what refusal 4 asks for.
-use Prim.Native.Nat.{ℕ, _*_, _<_}
+use Prim.Native.Nat.{ℕ, _*_, _/_, _<_}
 use mathlib.Core.Path.{_≡_}
 use lib.Dec.{eqb, ltb}
-use lib.IntN.{pos}
+use mathlib.Core.List.{List}
+use lib.IntN.{ℤ, pos}
+use lib.ListN.{length}
 use Rattle.sheet.specs.Edges.{Drawing}
 use Rattle.steps.specs.declared.End.the-variants.{Done, NoFreeRow}
 use Rattle.steps.specs.Rows.{Row, closing, Record, LevelEdge, Places, Room}
@@ -20,6 +22,10 @@ plainRoom sh rows records = record { places = placesOf sh; table = plainTable; j
 -- the drawing's edges at level 0
 abbrev pub edgeOf : Drawing → ℕ → LevelEdge ℕ
 edgeOf sh i = listEdge i (sh .tail i) (sh .head i)
+
+-- rows are lent as a slice, eight numbers each; a part of a row at the end is no row
+abbrev pub rowsIn : List ℤ → ℕ
+rowsIn s = length s / 8
 
 -- before the first edge
 abbrev pub freeRows : ℕ → Row ℕ

@@ -20,7 +20,8 @@ use Rattle.steps.specs.Rows.{otherSide, LevelEdge}
 use Rattle.steps.specs.SweepUp as up
 use Rattle.steps.specs.SweepUp.{State, foundBelow, hasTip, bothFinished}
 use Rattle.rows.specs.Layout as rows
-use Rattle.rows.specs.Layout.{pointPlaces, rowsIn, lookRow, finishedIn, freedIn}
+use Rattle.rows.specs.Layout.{pointPlaces, lookRow, finishedIn, freedIn}
+use Rattle.steps.specs.Swept.{rowsIn}
 use Rattle.sweep.specs.declared.Progress.{Progress}
 use Rattle.sweep.specs.declared.NamedEdge.{NamedEdge}
 use Rattle.sweep.specs.Slices.{room, lentRoom, state, edgeOf, isDone}

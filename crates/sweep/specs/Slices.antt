@@ -11,7 +11,8 @@ use Rattle.steps.specs.declared.End.the-variants.{Done, NoFreeRow, Overrun}
 use Rattle.steps.specs.Rows.{LevelEdge, Room}
 use Rattle.steps.specs.SweepUp.{State, Sweep, listEdge}
 use Rattle.rows.specs.Layout as rows
-use Rattle.rows.specs.Layout.{pointPlaces, rowsIn}
+use Rattle.rows.specs.Layout.{pointPlaces}
+use Rattle.steps.specs.Swept.{rowsIn}
 use Rattle.journal.specs.Layout as journal
 use Rattle.journal.specs.Layout.{recordsIn}
 use Rattle.sweep.specs.declared.Progress.{Progress}
