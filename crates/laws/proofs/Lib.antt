@@ -6,6 +6,8 @@ pub mod Lowest
 pub mod Further
 pub mod Pigeonhole
 pub mod Largest
+pub mod Least
+pub mod Logarithm
 pub mod Tests
 pub mod Either
 pub mod Once

@@ -8,4 +8,6 @@ pub mod Leads
 pub mod Outlines
 pub mod OneNumbering
 pub mod Trying
+pub mod RowsEnough
 pub mod Drawn
+pub mod WorkedRows
