@@ -1,8 +1,10 @@
 -- The table of the answer sheet, row by row: what is true of a call that gets an answer. Whatever `checked` answers, one row of the table gives it
--- (`row`); and since a row is told by its answer, each refusal is given exactly where its row holds.
-use mathlib.Core.Path.{_≡_, refl}
+-- (`row`), and whichever row holds, its answer is what `checked` gives (`given`). So each refusal is given exactly when its row holds, and none is
+-- given exactly when no row of a refusal holds.
+use mathlib.Core.Path.{_≡_, refl, sym, _∙_, subst}
 use mathlib.Core.Bool.{Bool, true, false, cond, _||_}
 use mathlib.Core.List.{List}
+use mathlib.Core.Logic.{_↔_}
 use Prim.Native.Nat.{ℕ, _≤_, _<_}
 use native.Mathlib.Omega.{arith}
 use lib.Dec.{ltb}
@@ -11,13 +13,15 @@ use borrow.Author.Tests.{ltb-true, ltb-false}
 use Rattle.laws.specs.Counting.{first}
 use Rattle.laws.proofs.Deciding.{not-both}
 use Rattle.laws.proofs.First.{first-holds, first-least}
-use Rattle.laws.proofs.Searching.{NoneBelow}
+use Rattle.laws.proofs.Searching.{NoneBelow, found-first, found-none}
 use Rattle.sheet.specs.declared.Refusal.{Refusal}
 use Rattle.sheet.specs.declared.Refusal.the-variants.{NotWhole, TooMany, ListsDiffer, JournalShort, PastRange, EqualEnds, TopFalls, Repeated, Uneven}
 use Rattle.sheet.specs.declared.Check.{Check}
 use Rattle.sheet.specs.declared.Check.the-variants.{Passed, Refused}
 use Rattle.sheet.specs.Edges.{edgesIn, drawingOf}
 use Rattle.sheet.specs.Answers.{Call, notWhole, tooMany, listsDiffer, journalShort, pastRange, equalEnds, topFalls, edgeFault, faultOf, repeats, uneven, refuseIf, refuseFirst, checked}
+use Rattle.checks.specs.KindsChecked.{kindsChecked}
+use Rattle.checks.proofs.Answering.{refuse-here, refuse-not}
 
 -- none of 1 to 4
 pub record LengthsFit (c : Call) : Type 0 where
@@ -81,3 +85,44 @@ row c =
     tried-all (Row c) (repeats (drawingOf (c .list))) (edgesIn (c .list)) Repeated (λ e h. row-8 l f h) (λ r.
     tried-all (Row c) (uneven (drawingOf (c .list))) (edgesIn (c .list)) Uneven (λ e h. row-9 l f r h) (λ u.
     no-row l f r u)))))))
+
+-- the refusal at the first of n edges, and none
+module _ (test : ℕ → Bool) (n : ℕ) (refusal : ℕ → Refusal) (rest : Check) where
+  refused-at : {e : ℕ} → IsFirst test n e → refuseFirst test n refusal rest ≡ Refused (refusal e)
+  refused-at f = sym (refuse-here test n _ (found-first test (f .before) (f .is-edge) (f .holds)) refusal rest (f .is-edge))
+
+  not-refused : NoneBelow test n → refuseFirst test n refusal rest ≡ rest
+  not-refused h = sym (refuse-not test n n (found-none test h (omega arith)) refusal rest (omega arith))
+
+-- what is tried after 1 to 4, and after 5 to 7
+module _ {c : Call} (l : LengthsFit c) where
+  fault-given : {e : ℕ} → IsFirst (edgeFault (c .list)) (edgesIn (c .list)) e → checked c ≡ Refused (faultOf (c .list) e)
+  unfolding checked
+  fault-given f = rw (l .whole, l .few, l .one-each, l .long) (refused-at _ _ (faultOf (c .list)) _ f)
+
+  kinds-given : NoneBelow (edgeFault (c .list)) (edgesIn (c .list)) → checked c ≡ kindsChecked (c .list) (edgesIn (c .list))
+  unfolding checked kindsChecked
+  kinds-given f = rw (l .whole, l .few, l .one-each, l .long) (not-refused _ _ (faultOf (c .list)) _ f)
+
+given : {c : Call} {a : Check} → Row c a → checked c ≡ a
+unfolding checked kindsChecked
+given (row-1 w) = rw w
+given (row-2 w m) = rw (w, m)
+given (row-3 w m o) = rw (w, m, o)
+given (row-4 w m o j) = rw (w, m, o, j)
+given (row-5 l f p) = fault-given l f ∙ rw p
+given (row-6 l f p q) = fault-given l f ∙ rw (p, q)
+given (row-7 l f p q t) = fault-given l f ∙ rw (p, q)
+given (row-8 l f h) = kinds-given l f ∙ refused-at _ _ Repeated _ h
+given (row-9 l f r h) = kinds-given l f ∙ not-refused _ _ Repeated _ r ∙ refused-at _ _ Uneven _ h
+given (no-row l f r u) = kinds-given l f ∙ not-refused _ _ Repeated _ r ∙ not-refused _ _ Uneven _ u
+
+pub exactly : (c : Call) (a : Check) → (checked c ≡ a) ↔ Row c a
+exactly c a = (λ q. subst (Row c) q (row c), given)
+
+pub passed-exactly : (c : Call) → (checked c ≡ Passed) ↔ ((r : Refusal) → Row c (Refused r) → ⊥)
+passed-exactly c = (λ q r h. let p = given h in let z : _≡_ {A = ℕ} 0 1 = cc in omega arith, none (checked c) (row c))
+  where
+    none : (a : Check) → Row c a → ((r : Refusal) → Row c (Refused r) → ⊥) → a ≡ Passed
+    none Passed h n = refl
+    none (Refused r) h n = absurd (n r h)

@@ -1,6 +1,6 @@
 -- What every later step goes by: a call that passes the nine checks has its lists of the right lengths, every end in the range, and a checked sheet.
 -- Each field of `Checked` is one of 5 to 9 that was not given; a place is its own height, so places of one height are one, and no place is apart.
-use mathlib.Core.Path.{_≡_, refl, sym, ap, _∙_, subst}
+use mathlib.Core.Path.{_≡_, refl, sym, ap, _∙_}
 use mathlib.Core.Bool.{true, false}
 use mathlib.Core.List.{List}
 use mathlib.Core.Logic.{⊎-elim}
@@ -23,7 +23,7 @@ use Rattle.sheet.proofs.Checked.{Checked}
 use Rattle.checks.specs.Faults.{Faultless}
 use Rattle.checks.specs.Keys.{topKey}
 use Rattle.checks.proofs.Keys.{Goes, up, down, goes, tail-in, head-in, tops-rise}
-use Rattle.checks.proofs.AnswerSheet.{LengthsFit, Row, no-row, row}
+use Rattle.checks.proofs.AnswerSheet.{LengthsFit, Row, no-row, exactly}
 
 pub record AllPassed (c : Call) : Type 0 where
   pub whole : length (c .list) ≡ 4 * edgesIn (c .list)
@@ -137,4 +137,4 @@ all-passed c (no-row l f r u) =
     }
 
 pub passed : (c : Call) → checked c ≡ Passed → AllPassed c
-passed c q = all-passed c (subst (Row c) q (row c))
+passed c q = all-passed c (exactly c Passed .0 q)
