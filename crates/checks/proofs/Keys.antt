@@ -29,7 +29,7 @@ pub data Goes (s : List ℤ) (e : ℕ) : Type 0 where
   up : drawingOf s .tail e < drawingOf s .head e → topKey s e ≡ 2 * drawingOf s .head e + 1 → bottomKey s e ≡ 2 * drawingOf s .tail e + 1 → Goes s e
   down : drawingOf s .head e < drawingOf s .tail e → topKey s e ≡ 2 * drawingOf s .tail e → bottomKey s e ≡ 2 * drawingOf s .head e → Goes s e
 
-top-rank : (s : List ℤ) (e : ℕ) → topKey s e / 2 ≡ rank (topOf (edgeAt s e))
+pub top-rank : (s : List ℤ) (e : ℕ) → topKey s e / 2 ≡ rank (topOf (edgeAt s e))
 unfolding topKey
 top-rank s e = omega (arith, bit-le (isUp (edgeAt s e)))
 

@@ -4,7 +4,7 @@ use mathlib.Core.Path.{_≡_, refl, sym, ap, _∙_}
 use mathlib.Core.Bool.{true, false}
 use mathlib.Core.List.{List}
 use mathlib.Core.Logic.{⊎-elim}
-use Prim.Native.Nat.{ℕ, _+_, _*_, _/_, _%_, _≤_, _<_, max}
+use Prim.Native.Nat.{ℕ, _+_, _*_, _/_, _%_, _≤_, _<_}
 use native.Mathlib.Omega.{arith}
 use lib.IntN.{ℤ}
 use lib.ListN.{length}
@@ -16,13 +16,14 @@ use Rattle.laws.proofs.First.{none-below}
 use Rattle.laws.proofs.Searching.{NoneBelow}
 use Rattle.sheet.specs.declared.Check.the-variants.{Passed}
 use Rattle.sheet.specs.Points.{inRange}
-use Rattle.sheet.specs.Edges.{edgeAt, edgesIn, drawingOf, SweepOrder}
+use Rattle.sheet.specs.Edges.{edgeAt, edgesIn, drawingOf, topHeight, SweepOrder}
 use Rattle.sheet.specs.Kinds.{Way, arriving, leaving, From, below, above, endOf, comes, numberAt}
 use Rattle.sheet.specs.Answers.{Call, notWhole, tooMany, listsDiffer, journalShort, sameFrom, sameKind, repeats, differ, uneven, checked}
+use Rattle.sheet.proofs.Tops.{end-heights}
 use Rattle.sheet.proofs.Checked.{Checked}
 use Rattle.checks.specs.Faults.{Faultless}
 use Rattle.checks.specs.Keys.{topKey}
-use Rattle.checks.proofs.Keys.{Goes, up, down, goes, tail-in, head-in, tops-rise}
+use Rattle.checks.proofs.Keys.{Goes, up, down, goes, top-rank, tail-in, head-in, tops-rise}
 use Rattle.checks.proofs.AnswerSheet.{LengthsFit, Row, no-row, exactly}
 
 pub record AllPassed (c : Call) : Type 0 where
@@ -82,12 +83,8 @@ module _ {s : List ℤ} (F : Faultless s (edgesIn s)) where
       by (up h t b) = omega arith
       by (down h t b) = omega arith
 
-  top-height : (e : ℕ) → e < edgesIn s → topKey s e / 2 ≡ max (drawingOf s .tail e) (drawingOf s .head e)
-  top-height e l = by (goes F e l)
-    where
-      by : Goes s e → topKey s e / 2 ≡ max (drawingOf s .tail e) (drawingOf s .head e)
-      by (up h t b) = omega arith
-      by (down h t b) = omega arith
+  top-height : (e : ℕ) → e < edgesIn s → topKey s e / 2 ≡ topHeight (drawingOf s) e
+  top-height e l = top-rank s e ∙ end-heights s e (tail-in F e l) (head-in F e l) .top
 
   order : SweepOrder (drawingOf s)
   unfolding drawingOf
