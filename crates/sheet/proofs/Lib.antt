@@ -12,3 +12,4 @@ pub mod Trying
 pub mod RowsEnough
 pub mod Drawn
 pub mod WorkedRows
+pub mod WorkedRefusals
