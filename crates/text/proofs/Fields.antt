@@ -5,7 +5,7 @@ use Prim.Native.Nat.{ℕ, _+_, _<_}
 use native.Mathlib.Omega.{arith}
 use lib.ListN.{length}
 use borrow.Author.Tests.{eq-eqb, ne-eqb}
-use Rattle.text.specs.declared.Step.the-variants.{On, Malformed}
+use Rattle.text.specs.Said.{read, refused, malformed}
 use Rattle.text.specs.Numbers.{byteAt}
 use Rattle.text.specs.Lines.{pastAt}
 use Rattle.text.proofs.Bytes.{byte-here, byte-stands}
@@ -14,10 +14,10 @@ module _ (s : List ℕ) (i : ℕ) {b c w : ℕ} (e : b ≡ byteAt s (i + 0)) (f 
   pub stood : b ≡ w → c < 256 → i < length s
   stood h l = byte-stands s i (omega (arith, byte-here s i e))
 
-  pub went-on : b ≡ w → On (record { at = i + 1 }) ≡ pastAt s i c
+  pub went-on : b ≡ w → read tt (i + 1) ≡ pastAt s i c
   unfolding pastAt
   went-on h = rw (eq-eqb (byteAt s i) c (omega (arith, byte-here s i e)))
 
-  pub stayed : (b ≡ w → ⊥) → Malformed ≡ pastAt s i c
+  pub stayed : (b ≡ w → ⊥) → refused malformed ≡ pastAt s i c
   unfolding pastAt
   stayed h = rw (ne-eqb (byteAt s i) c (λ q. h (omega (arith, byte-here s i e))))

@@ -18,3 +18,4 @@ pub mod NumeralsRead
 pub mod ReadBack
 pub mod NumeralsStand
 pub mod WrittenSo
+pub mod WorkedTexts

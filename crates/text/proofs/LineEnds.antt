@@ -13,9 +13,7 @@ use Rattle.laws.proofs.Deciding.{lt-or-le, true-or-false}
 use Rattle.laws.specs.Counting.{first}
 use Rattle.laws.proofs.First.{first-is}
 use Rattle.sheet.specs.declared.Edge.{Edge}
-use Rattle.text.specs.declared.Cursor.{Cursor}
-use Rattle.text.specs.declared.Number.the-variants as number
-use Rattle.text.specs.declared.Line.the-variants as line
+use Rattle.text.specs.Said.{read}
 use Rattle.text.specs.Numbers.{byteAt, minusAt, digitsAt, digitsFrom, numberAt}
 use Rattle.text.specs.Lines.{fieldAt, space, newline, lineAt}
 use Rattle.text.specs.Texts.{newlineAt, afterNewline}
@@ -60,27 +58,27 @@ module _ (s : List ℕ) where
           let e : i + (k - i) ≡ k = omega arith in
           omega (arith, digit-range _ (digit-there s i (k - i) (omega arith)), ap (byteAt s) e)
 
-  number-run : (i : ℕ) {z : ℤ} {c : Cursor} → numberAt s i ≡ number.Value z c → Run s i (c .at)
+  number-run : (i : ℕ) {z : ℤ} {c : ℕ} → numberAt s i ≡ read z c → Run s i c
   number-run i e = rw (number-parts s i e .end) (run-join (minus-run i) (digits-run (digitsAt s i)))
 
-  space-run : (i : ℕ) {z : ℤ} {c : Cursor} → fieldAt s space i ≡ number.Value z c → Run s i (c .at)
+  space-run : (i : ℕ) {z : ℤ} {c : ℕ} → fieldAt s space i ≡ read z c → Run s i c
   space-run i e =
       let f = field-parts s space i e in
-      rw (f .past) (run-join (number-run i (f .number)) (run-byte s (f .after .at) (λ q. omega (arith, f .byte))))
+      rw (f .past) (run-join (number-run i (f .number)) (run-byte s (f .after) (λ q. omega (arith, f .byte))))
 
   -- a line is a run and a newline
-  pub record Ended (i : ℕ) (c : Cursor) : Type 0 where
+  pub record Ended (i : ℕ) (c : ℕ) : Type 0 where
     pub end : ℕ
     pub run : Run s i end
     pub byte : byteAt s end ≡ newline
-    pub past : c .at ≡ end + 1
+    pub past : c ≡ end + 1
 
-  pub line-is : (i : ℕ) {e : Edge} {c : Cursor} → lineAt s i ≡ line.Edge e c → Ended i c
+  pub line-is : (i : ℕ) {e : Edge} {c : ℕ} → lineAt s i ≡ read e c → Ended i c
   line-is i h =
       let l = line-parts s i h in
       let r = run-join (space-run i (l .tail-x)) (run-join (space-run _ (l .tail-y)) (space-run _ (l .head-x))) in
       let f = field-parts s newline _ (l .head-y) in
-      record { end = f .after .at; run = run-join r (number-run _ (f .number)); byte = f .byte; past = f .past }
+      record { end = f .after; run = run-join r (number-run _ (f .number)); byte = f .byte; past = f .past }
 
   newline-found : (i j : ℕ) → Run s i j → byteAt s j ≡ 10 → afterNewline s i ≡ j + 1
   unfolding afterNewline newlineAt
@@ -91,5 +89,5 @@ module _ (s : List ℕ) where
       first-is _ _ _ (omega arith) (λ m. ap (newlineAt s) e ∙ eq-eqb _ _ b) (λ k m. r .clear (i + k) (omega arith) (omega arith)) in
       omega (arith, r .on)
 
-  pub line-ends : (i : ℕ) {e : Edge} {c : Cursor} → lineAt s i ≡ line.Edge e c → c .at ≡ afterNewline s i
+  pub line-ends : (i : ℕ) {e : Edge} {c : ℕ} → lineAt s i ≡ read e c → c ≡ afterNewline s i
   line-ends i h = let f = line-is i h in f .past ∙ sym (newline-found i (f .end) (f .run) (f .byte))

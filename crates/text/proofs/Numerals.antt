@@ -14,7 +14,7 @@ use lib.ListN.{length}
 use borrow.Author.Tests.{leb-true, not-false}
 use Rattle.laws.proofs.Deciding.{both-true}
 use Rattle.laws.proofs.First.{first-least}
-use Rattle.text.specs.declared.Number.the-variants.{Value, Malformed}
+use Rattle.text.specs.Said.{read, refused, malformed}
 use Rattle.text.specs.Numbers.{byteAt, isDigit, minusAt, digitsAt, digitsFrom, valueAt, isNumeral, withSign, numeralAt, numberAt}
 use Rattle.sheet.proofs.Signed.{read-back}
 use Rattle.text.proofs.Signs.{mag-signed}
@@ -67,18 +67,18 @@ pub record IsNumber (s : List ℕ) (i : ℕ) (minus : Bool) (a d : ℕ) : Type 0
   pub few : (d ≤ 7) × (d ≤ digitsFrom s a)
   pub stands : a + d ≤ length s
   pub small : valueAt s a d < 10000000
-  pub number : Value (withSign minus (valueAt s a d)) (record { at = a + d }) ≡ numberAt s i
+  pub number : read (withSign minus (valueAt s a d)) (a + d) ≡ numberAt s i
 
 -- A number read step by step: the minus, the place of the digits, how many they are, the first of them.
 module _ (s : List ℕ) (i : ℕ) {minus : Bool} {a d lead : ℕ}
     (m : minus ≡ minusAt s i) (p : a ≡ digitsAt s i) (n : d ≡ digitsFrom s a) (b : lead ≡ byteAt s (a + 0)) where
-  taken-apart : (t : Bool) → isNumeral minus lead d ≡ t → cond t (Value (withSign minus (valueAt s a d)) (record { at = a + d })) Malformed ≡ numberAt s i
+  taken-apart : (t : Bool) → isNumeral minus lead d ≡ t → cond t (read (withSign minus (valueAt s a d)) (a + d)) (refused malformed) ≡ numberAt s i
   unfolding numberAt numeralAt
   taken-apart t h =
       let g : isNumeral (minusAt s i) (byteAt s (digitsAt s i)) (digitsFrom s (digitsAt s i)) ≡ t = cc (byte-here s a b, h, m, p, n) in
       rw (g, n, p, m)
 
-  pub no-number : isNumeral minus lead d ≡ false → Malformed ≡ numberAt s i
+  pub no-number : isNumeral minus lead d ≡ false → refused malformed ≡ numberAt s i
   no-number h = taken-apart false h
 
   pub is-number : isNumeral minus lead d ≡ true → IsNumber s i minus a d
@@ -93,5 +93,5 @@ module _ (s : List ℕ) (i : ℕ) {minus : Bool} {a d lead : ℕ}
 
 -- the number in 32 bits
 pub a-number : {s : List ℕ} {i : ℕ} {minus : Bool} {a d v : ℕ} {z : ℤ} → IsNumber s i minus a d → v ≡ valueAt s a d → z ≡ withSign minus v
-    → Value (toZ w32 (ofZ w32 z)) (record { at = a + d }) ≡ numberAt s i
+    → read (toZ w32 (ofZ w32 z)) (a + d) ≡ numberAt s i
 a-number {minus = minus} {v = v} f e g = rw (g, read-back (withSign minus v) (omega (arith, f .small, mag-signed minus v)), e) (f .number)

@@ -11,7 +11,7 @@ use lib.ListN.{length}
 use borrow.Author.Tests.{eqb-true, eq-eqb, ne-eqb, le-leb, le-ltb}
 use Rattle.laws.proofs.Deciding.{true-or-false, not-both}
 use Rattle.laws.proofs.First.{first-is}
-use Rattle.text.specs.declared.Number.the-variants.{Value}
+use Rattle.text.specs.Said.{read}
 use Rattle.text.specs.Numbers.{byteAt, isDigit, minusAt, digitsAt, digitsFrom, valueAt, leadingZero, minusZero, isNumeral, withSign, numeralAt, numberAt}
 use Rattle.text.specs.Written.{decimal, numeral, Short}
 use Rattle.text.proofs.Bytes.{digit-range}
@@ -46,7 +46,7 @@ module _ (s : List ℕ) (i : ℕ) {w : List ℕ} {n : ℕ} (f : Writes 7 w n) (h
       by true m z = absurd (omega (arith, m refl))
       by false m z = refl
 
-  numeral-read : (minus : Bool) → (minus ≡ true → 1 ≤ n) → numeralAt s minus i (digitsFrom s i) ≡ Value (withSign minus n) (record { at = i + length w })
+  numeral-read : (minus : Bool) → (minus ≡ true → 1 ≤ n) → numeralAt s minus i (digitsFrom s i) ≡ read (withSign minus n) (i + length w)
   unfolding numeralAt
   numeral-read minus m = rw (digits-are, is-numeral minus m, value-is)
 
@@ -62,7 +62,7 @@ minus-spelled s i w h = (there, rest)
     rest k l = let q : i + 1 + k ≡ i + suc k = omega arith in ap (byteAt s) q ∙ h (suc k) (omega arith)
 
 pub number-read : (s : List ℕ) (i : ℕ) (z : ℤ) → Short z → Spelled s i (numeral z) → isDigit (byteAt s (i + length (numeral z))) ≡ false
-    → numberAt s i ≡ Value z (record { at = i + length (numeral z) })
+    → numberAt s i ≡ read z (i + length (numeral z))
 unfolding numberAt numeral digitsAt withSign
 number-read s i (pos n) l h e =
     let f = decimal-writes 7 n l (omega arith) in

@@ -11,12 +11,11 @@ use lib.IntN.{ℤ, pos, negℤ, natAbs}
 use lib.ListN.{length, length-append}
 use borrow.Author.Tests.{eqb-true, eq-eqb, le-ltb, lt-ltb, not-true}
 use Rattle.laws.proofs.Deciding.{true-or-false, not-both, lt-or-le, both-true}
-use Rattle.text.specs.declared.Cursor.{Cursor}
 use Rattle.text.specs.Numbers.{byteAt, minusAt, digitsAt, digitsFrom, valueAt, leadingZero, minusZero, isNumeral, withSign, numberAt}
 use Rattle.text.specs.Written.{decimal, numeral, Short}
 use Rattle.text.proofs.Bytes.{digit-range}
 use Rattle.text.proofs.Numerals.{digit-there, numeral-few, value-small}
-use Rattle.text.specs.declared.Number.the-variants as number
+use Rattle.text.specs.Said.{read}
 use Rattle.text.proofs.Parts.{number-parts}
 use Rattle.text.proofs.Spelled.{Spelled, spelled-join, spelled-byte}
 
@@ -167,7 +166,7 @@ module _ (s : List ℕ) (i : ℕ) where
       → z ≡ withSign (minusAt s i) (valueAt s (digitsAt s i) (digitsFrom s (digitsAt s i))) → z ≡ withSign t (valueAt s a (digitsFrom s a))
   sign-known {t = t} m g v = v ∙ ap (λ (u : Bool). withSign u (valueAt s (digitsAt s i) (digitsFrom s (digitsAt s i)))) m ∙ ap (λ (a : ℕ). withSign t (valueAt s a (digitsFrom s a))) g
 
-  pub number-written : {z : ℤ} {c : Cursor} → numberAt s i ≡ number.Value z c → StandsWritten s i z (c .at)
+  pub number-written : {z : ℤ} {c : ℕ} → numberAt s i ≡ read z c → StandsWritten s i z c
   unfolding withSign
   number-written {z} {c} h = let p = number-parts s i h in ⊎-elim
       (λ m. let g = digits-after m in rw (sign-known m g (p .value), p .end, g) (negative-written m (rw (m, g) at (p .numeral))))

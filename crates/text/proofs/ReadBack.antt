@@ -11,12 +11,10 @@ use lib.ListN.{getD, length, length-append}
 use borrow.Author.Tests.{eq-eqb, le-ltb}
 use Rattle.laws.proofs.Searching.{NoneBelow, found-none}
 use Rattle.sheet.specs.declared.Edge.{Edge}
-use Rattle.text.specs.declared.Cursor.{Cursor}
-use Rattle.text.specs.declared.Number.the-variants.{Value}
-use Rattle.text.specs.declared.Line.the-variants as line
 use Rattle.text.specs.declared.Reading.the-variants.{Edges}
+use Rattle.text.specs.Said.{read, andThen}
 use Rattle.text.specs.Numbers.{byteAt, isDigit}
-use Rattle.text.specs.Lines.{pastAt, onward, followed, fieldAt, andThen, space, newline, lineAt, isMalformed, edgeIn, edgeOf}
+use Rattle.text.specs.Lines.{pastAt, fieldAt, space, newline, lineAt, isMalformed, edgeIn, edgeOf}
 use Rattle.text.specs.Texts.{lineCount, lineStart, lineOf, firstMalformed, pastLimits, tooMuch, answerOf, readingOf}
 use Rattle.text.specs.Written.{numeral, withByte, writtenLine, written, Short, ShortEdge, AllShort}
 use Rattle.text.proofs.LineEnds.{line-ends}
@@ -33,8 +31,8 @@ module _ (s : List ℕ) (b i : ℕ) (z : ℤ) (d : isDigit b ≡ false) (l : Sho
       let q : i + length (numeral z) ≡ i + length (numeral z) + 0 = omega arith in
       ap (byteAt s) q ∙ spelled-right s i (numeral z) (b ∷ []) h 0 (omega arith)
 
-  field-read : fieldAt s b i ≡ Value z (record { at = i + length (withByte z b) })
-  unfolding fieldAt followed onward pastAt withByte
+  field-read : fieldAt s b i ≡ read z (i + length (withByte z b))
+  unfolding fieldAt andThen pastAt withByte
   field-read =
       let n = number-read s i z l (spelled-left s i (numeral z) (b ∷ []) h) (ap isDigit byte-after ∙ d) in
       let q : i + length (numeral z ++ (b ∷ [])) ≡ i + length (numeral z) + 1 = omega (arith, length-append (numeral z) (b ∷ [])) in
@@ -48,7 +46,7 @@ no-newline : isDigit newline ≡ false
 unfolding isDigit
 no-newline = refl
 
-line-read : (s : List ℕ) (i : ℕ) (e : Edge) → ShortEdge e → Spelled s i (writtenLine e) → lineAt s i ≡ line.Edge e (record { at = i + length (writtenLine e) })
+line-read : (s : List ℕ) (i : ℕ) (e : Edge) → ShortEdge e → Spelled s i (writtenLine e) → lineAt s i ≡ read e (i + length (writtenLine e))
 unfolding lineAt andThen writtenLine
 line-read s i e l h =
     let a = withByte (e .tail .x) space in
@@ -71,10 +69,10 @@ line-read s i e l h =
 -- the lines from line m on are those of es
 record LinesAre (s : List ℕ) (m : ℕ) (es : List Edge) : Type 0 where
   ends : lineStart s (m + length es) ≡ lineStart s m + length (written es)
-  each : (d : Edge) (n : ℕ) → n < length es → (c : Cursor) × (lineOf s (m + n) ≡ line.Edge (getD es n d) c)
+  each : (d : Edge) (n : ℕ) → n < length es → (c : ℕ) × (lineOf s (m + n) ≡ read (getD es n d) c)
 
 module _ (s : List ℕ) (m : ℕ) (e : Edge) (es : List Edge) (l : AllShort (e ∷ es)) (h : Spelled s (lineStart s m) (written (e ∷ es))) where
-  first-read : lineAt s (lineStart s m) ≡ line.Edge e (record { at = lineStart s m + length (writtenLine e) })
+  first-read : lineAt s (lineStart s m) ≡ read e (lineStart s m + length (writtenLine e))
   unfolding written
   first-read = line-read s (lineStart s m) e (l e 0 (omega arith)) (spelled-left s (lineStart s m) (writtenLine e) (written es) h)
 
@@ -95,7 +93,7 @@ module _ (s : List ℕ) (m : ℕ) (e : Edge) (es : List Edge) (l : AllShort (e �
           let q : m + suc (length es) ≡ suc m + length es = omega arith in
           omega (arith, ap (lineStart s) q, rest .ends, second-start, length-append (writtenLine e) (written es))
 
-      each : (d : Edge) (n : ℕ) → n < suc (length es) → (c : Cursor) × (lineOf s (m + n) ≡ line.Edge (getD (e ∷ es) n d) c)
+      each : (d : Edge) (n : ℕ) → n < suc (length es) → (c : ℕ) × (lineOf s (m + n) ≡ read (getD (e ∷ es) n d) c)
       each d zero g = let q : m + 0 ≡ m = omega arith in (_, ap (lineOf s) q ∙ first-read)
       each d (suc n) g =
           let q : m + suc n ≡ suc m + n = omega arith in
@@ -148,7 +146,7 @@ module _ (es : List Edge) (l : AllShort es) where
   unfolding lineStart
   all-read = lines-read (written es) 0 es l (λ k g. let q : 0 + k ≡ k = omega arith in ap (byteAt (written es)) q)
 
-  line-there : (d : Edge) (n : ℕ) → n < length es → (c : Cursor) × (lineOf (written es) n ≡ line.Edge (getD es n d) c)
+  line-there : (d : Edge) (n : ℕ) → n < length es → (c : ℕ) × (lineOf (written es) n ≡ read (getD es n d) c)
   line-there d n g =
       let q : n ≡ 0 + n = omega arith in
       let v = all-read .each d n g in

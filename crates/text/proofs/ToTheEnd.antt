@@ -15,10 +15,8 @@ use Rattle.laws.proofs.Counting.{count-more, count-none, count-from, count-grow
 use Rattle.laws.proofs.First.{first-least}
 use Rattle.laws.proofs.Searching.{NoneBelow}
 use Rattle.sheet.specs.declared.Edge.{Edge}
-use Rattle.text.specs.declared.Cursor.{Cursor}
-use Rattle.text.specs.declared.Line.{Line}
-use Rattle.text.specs.declared.Line.the-variants as line
 use Rattle.text.specs.declared.Reading.the-variants.{Edges}
+use Rattle.text.specs.Said.{Said, read, refused}
 use Rattle.text.specs.Numbers.{byteAt}
 use Rattle.text.specs.Lines.{isMalformed}
 use Rattle.text.specs.Texts.{newlineAt, newlines, unended, lineCount, lineStart, lineOf, firstMalformed, tooMuch, answerOf, readingOf}
@@ -26,10 +24,10 @@ use Rattle.text.proofs.Bytes.{byte-stands}
 use Rattle.text.proofs.EnoughRoom.{few-lines}
 use Rattle.text.proofs.LineEnds.{Ended, line-is, line-ends}
 
-pub has-edge : (l : Line) → isMalformed l ≡ false → (e : Edge) × (c : Cursor) × (l ≡ line.Edge e c)
+pub has-edge : (l : Said Edge) → isMalformed l ≡ false → (e : Edge) × (c : ℕ) × (l ≡ read e c)
 unfolding isMalformed
-has-edge (line.Edge e c) h = (e, c, refl)
-has-edge line.Malformed h = let z : _≡_ {A = ℕ} 0 1 = cc in absurd (omega arith)
+has-edge (read e c) h = (e, c, refl)
+has-edge (refused n) h = let z : _≡_ {A = ℕ} 0 1 = cc in absurd (omega arith)
 
 none-malformed : (s : List ℕ) → lineCount s ≤ firstMalformed s (lineCount s) → NoneBelow (λ k. isMalformed (lineOf s k)) (lineCount s)
 unfolding firstMalformed
@@ -41,7 +39,7 @@ module _ (s : List ℕ) where
   newline-there k e = eq-eqb (byteAt s k) 10 e
 
   -- a line has one newline
-  one-newline : (i : ℕ) {c : Cursor} → Ended s i c → count (newlineAt s) (c .at) ≡ count (newlineAt s) i + 1
+  one-newline : (i : ℕ) {c : ℕ} → Ended s i c → count (newlineAt s) c ≡ count (newlineAt s) i + 1
   one-newline i {c} f = omega (
     arith,
     ap (count (newlineAt s)) (f .past),

@@ -15,6 +15,7 @@ use Rattle.text.specs.declared.Cursor.{Cursor}
 use Rattle.text.specs.declared.Line.{Line}
 use Rattle.text.specs.declared.Line.the-variants as line
 use Rattle.text.specs.declared.Reading.the-variants as reading
+use Rattle.text.specs.Said.{Said, lineSaid}
 use Rattle.text.specs.Lines.{lineAt, isMalformed, edgeIn}
 use Rattle.text.specs.Texts.{lineStart, lineOf, firstMalformed, answerOf, placed, Filled, LinesTried}
 use Rattle.text.proofs.LineEnds.{line-ends}
@@ -34,14 +35,14 @@ unfolding lineStart
 none-so-far s l = record { here = refl; sound = none-yet _; filled = nothing-filled s l }
 
 module _ (s : List ℕ) {before after : List ℤ} {cursor n : ℕ} (f : SoFar s before after cursor n) where
-  line-here : {l : Line} → l ≡ lineAt s cursor → lineOf s n ≡ l
+  line-here : {l : Said Edge} → l ≡ lineAt s cursor → lineOf s n ≡ l
   unfolding lineOf
   line-here e = rw (e, f .here)
 
-  pub stopped : {lines : ℕ} {l : Line} → n < lines → l ≡ lineAt s cursor → l ≡ line.Malformed → LinesTried s lines before after (reading.Malformed (n + 1))
+  pub stopped : {lines : ℕ} {l : Line} → n < lines → lineSaid l ≡ lineAt s cursor → l ≡ line.Malformed → LinesTried s lines before after (reading.Malformed (n + 1))
   unfolding firstMalformed answerOf isMalformed
   stopped {lines} h e m =
-      let q : n ≡ firstMalformed s lines = found-first (malformed s) (f .sound) h (ap isMalformed (line-here e ∙ m)) in
+      let q : n ≡ firstMalformed s lines = found-first (malformed s) (f .sound) h (ap isMalformed (line-here e ∙ ap lineSaid m)) in
       record { answer = rw (← q, lt-ltb n lines h); filled = rw (← q) (f .filled) }
 
   pub ran-out : {lines : ℕ} → lines ≡ n → LinesTried s lines before after (reading.Edges lines)
@@ -51,10 +52,10 @@ module _ (s : List ℕ) {before after : List ℤ} {cursor n : ℕ} (f : SoFar s 
       record { answer = rw (← q, le-ltb lines lines (omega arith)); filled = rw (← q, h) (f .filled) }
 
   pub one-more : {l : Line} {e : Edge} {c : Cursor} {a : List ℤ}
-      → 4 * n + 3 < length before → l ≡ lineAt s cursor → l ≡ line.Edge e c → a ≡ placed after n e → SoFar s before a (c .at) (n + 1)
+      → 4 * n + 3 < length before → lineSaid l ≡ lineAt s cursor → l ≡ line.Edge e c → a ≡ placed after n e → SoFar s before a (c .at) (n + 1)
   unfolding isMalformed edgeIn lineStart
   one-more {l} {e} {c} {a} room g h p = record {
-    here = rw (add-one, ← f .here) (line-ends s cursor (sym g ∙ h));
-    sound = none-more (malformed s) (f .sound) (ap isMalformed (line-here g ∙ h));
-    filled = rw p (one-more-filled s n (f .filled) room (ap edgeIn (line-here g ∙ h)));
+    here = rw (add-one, ← f .here) (line-ends s cursor (sym g ∙ ap lineSaid h));
+    sound = none-more (malformed s) (f .sound) (ap isMalformed (line-here g ∙ ap lineSaid h));
+    filled = rw p (one-more-filled s n (f .filled) room (ap edgeIn (line-here g ∙ ap lineSaid h)));
   }

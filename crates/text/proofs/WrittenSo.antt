@@ -10,13 +10,11 @@ use lib.IntN.{ℤ}
 use lib.ListN.{length, length-append, List·getD-append}
 use lib.Seq.{getD-append-seam, ext-getD}
 use Rattle.laws.proofs.Deciding.{lt-or-le}
-use Rattle.text.specs.declared.Cursor.{Cursor}
 use Rattle.text.specs.Numbers.{byteAt}
 use Rattle.text.specs.Written.{numeral, Short, withByte, writtenLine, written, ShortEdge, AllShort}
 use Rattle.laws.proofs.Searching.{NoneBelow}
 use Rattle.sheet.specs.declared.Edge.{Edge}
-use Rattle.text.specs.declared.Number.the-variants as number
-use Rattle.text.specs.declared.Line.the-variants as line
+use Rattle.text.specs.Said.{read}
 use Rattle.text.specs.declared.Reading.the-variants.{Edges}
 use Rattle.text.specs.Lines.{fieldAt, space, newline, lineAt, isMalformed, edgeIn}
 use Rattle.text.specs.Texts.{lineStart, lineOf, readingOf}
@@ -32,7 +30,7 @@ record FieldWritten (s : List ℕ) (b i : ℕ) (z : ℤ) (end : ℕ) : Type 0 wh
   there : Spelled s i (withByte z b)
   past : end ≡ i + length (withByte z b)
 
-field-written : (s : List ℕ) (b i : ℕ) {z : ℤ} {c : Cursor} → fieldAt s b i ≡ number.Value z c → FieldWritten s b i z (c .at)
+field-written : (s : List ℕ) (b i : ℕ) {z : ℤ} {c : ℕ} → fieldAt s b i ≡ read z c → FieldWritten s b i z c
 unfolding withByte
 field-written s b i {z} h =
     let f = field-parts s b i h in
@@ -48,7 +46,7 @@ record LineWritten (s : List ℕ) (i : ℕ) (e : Edge) (end : ℕ) : Type 0 wher
   there : Spelled s i (writtenLine e)
   past : end ≡ i + length (writtenLine e)
 
-line-written : (s : List ℕ) (i : ℕ) {e : Edge} {c : Cursor} → lineAt s i ≡ line.Edge e c → LineWritten s i e (c .at)
+line-written : (s : List ℕ) (i : ℕ) {e : Edge} {c : ℕ} → lineAt s i ≡ read e c → LineWritten s i e c
 unfolding writtenLine
 line-written s i {e} h =
     let l = line-parts s i h in

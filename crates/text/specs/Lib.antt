@@ -1,4 +1,5 @@
--- The definitions: a number, a line, a whole text, and how edges are written.
+-- The definitions: what is answered, a number, a line, a whole text, and how edges are written.
+pub mod Said
 pub mod Numbers
 pub mod Lines
 pub mod Texts

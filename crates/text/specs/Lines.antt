@@ -6,35 +6,19 @@ use mathlib.Core.List.{List}
 use lib.Dec.{eqb}
 use lib.IntN.{ℤ, pos}
 use Rattle.sheet.specs.declared.Edge.{Edge}
-use Rattle.text.specs.declared.Number.{Number}
-use Rattle.text.specs.declared.Number.the-variants as number
-use Rattle.text.specs.declared.Step.{Step}
-use Rattle.text.specs.declared.Step.the-variants as step
-use Rattle.text.specs.declared.Line.{Line}
-use Rattle.text.specs.declared.Line.the-variants as line
+use Rattle.text.specs.Said.{Said, read, refused, malformed, andThen}
 use Rattle.text.specs.Numbers.{byteAt, numberAt}
 
 -- the place after the byte b, which must stand at i
-unfoldable pub pastAt : List ℕ → ℕ → ℕ → Step
-pastAt s i b = cond (eqb (byteAt s i) b) (step.On (record { at = i + 1 })) step.Malformed
-
--- a number that was read, at the place after one byte more
-unfoldable pub onward : ℤ → Step → Number
-onward z (step.On c) = number.Value z c
-onward z step.Malformed = number.Malformed
-
-unfoldable pub followed : List ℕ → ℕ → Number → Number
-followed s b (number.Value z c) = onward z (pastAt s (c .at) b)
-followed s b number.Malformed = number.Malformed
+unfoldable pub pastAt : List ℕ → ℕ → ℕ → Said Unit
+pastAt s i b = cond (eqb (byteAt s i) b) (read tt (i + 1)) (refused malformed)
 
 -- the number at i with the byte b after it
-unfoldable pub fieldAt : List ℕ → ℕ → ℕ → Number
-fieldAt s b i = followed s b (numberAt s i)
-
--- what is read on from a number, where one was read
-unfoldable pub andThen : Number → (ℤ → ℕ → Line) → Line
-andThen (number.Value z c) more = more z (c .at)
-andThen number.Malformed more = line.Malformed
+unfoldable pub fieldAt : List ℕ → ℕ → ℕ → Said ℤ
+fieldAt s b i =
+    andThen (numberAt s i) λ z i.
+    andThen (pastAt s i b) λ u i.
+    read z i
 
 abbrev pub space : ℕ
 space = 32
@@ -46,19 +30,19 @@ abbrev pub edgeOf : ℤ → ℤ → ℤ → ℤ → Edge
 edgeOf a b c d = record { tail = record { x = a; y = b }; head = record { x = c; y = d } }
 
 -- the line that begins at i, and the place after it
-unfoldable pub lineAt : List ℕ → ℕ → Line
+unfoldable pub lineAt : List ℕ → ℕ → Said Edge
 lineAt s i =
     andThen (fieldAt s space i) λ tail-x i.
     andThen (fieldAt s space i) λ tail-y i.
     andThen (fieldAt s space i) λ head-x i.
     andThen (fieldAt s newline i) λ head-y i.
-    line.Edge (edgeOf tail-x tail-y head-x head-y) (record { at = i })
+    read (edgeOf tail-x tail-y head-x head-y) i
 
-unfoldable pub isMalformed : Line → Bool
-isMalformed (line.Edge e c) = false
-isMalformed line.Malformed = true
+unfoldable pub isMalformed : Said Edge → Bool
+isMalformed (read e i) = false
+isMalformed (refused n) = true
 
 -- a well-formed line's edge
-unfoldable pub edgeIn : Line → Edge
-edgeIn (line.Edge e c) = e
-edgeIn line.Malformed = edgeOf (pos 0) (pos 0) (pos 0) (pos 0)
+unfoldable pub edgeIn : Said Edge → Edge
+edgeIn (read e i) = e
+edgeIn (refused n) = edgeOf (pos 0) (pos 0) (pos 0) (pos 0)

@@ -1,6 +1,6 @@
 -- A number in a text: an optional minus, then all the digits that stand there, 1 to 7 of them, with no zero in front of other digits and no minus in
--- front of zero. A text is the list of its bytes. Each definition is a test or a function that computes, and the reading methods of the cursor are proved
--- equal to it. "01 Program 2" in a comment names the second sentence under "The program and the host".
+-- front of zero. A text is the list of its bytes. Each definition is a test or a function that computes, and the answers of the cursor's reading methods are
+-- proved to say it. "01 Program 2" in a comment names the second sentence under "The program and the host".
 use Prim.Native.Nat.{ℕ, zero, suc, _+_, _-_, _*_}
 use mathlib.Core.Bool.{Bool, cond, not, _&&_}
 use mathlib.Core.List.{List}
@@ -8,8 +8,7 @@ use lib.Dec.{eqb, ltb, leb}
 use lib.IntN.{ℤ, pos, negℤ}
 use lib.ListN.{getD}
 use Rattle.laws.specs.Counting.{first}
-use Rattle.text.specs.declared.Number.{Number}
-use Rattle.text.specs.declared.Number.the-variants.{Value, Malformed}
+use Rattle.text.specs.Said.{Said, read, refused, malformed}
 
 -- the byte at a place; past the end none stands, which is written 256
 unfoldable pub byteAt : List ℕ → ℕ → ℕ
@@ -52,10 +51,10 @@ unfoldable pub withSign : Bool → ℕ → ℤ
 withSign minus n = cond minus (negℤ (pos n)) (pos n)
 
 -- the number whose d digits begin at a, and the place after it
-unfoldable pub numeralAt : List ℕ → Bool → ℕ → ℕ → Number
+unfoldable pub numeralAt : List ℕ → Bool → ℕ → ℕ → Said ℤ
 numeralAt s minus a d =
-    cond (isNumeral minus (byteAt s a) d) (Value (withSign minus (valueAt s a d)) (record { at = a + d })) Malformed
+    cond (isNumeral minus (byteAt s a) d) (read (withSign minus (valueAt s a d)) (a + d)) (refused malformed)
 
 -- the number at i: it goes as far as digits stand
-unfoldable pub numberAt : List ℕ → ℕ → Number
+unfoldable pub numberAt : List ℕ → ℕ → Said ℤ
 numberAt s i = numeralAt s (minusAt s i) (digitsAt s i) (digitsFrom s (digitsAt s i))

@@ -10,9 +10,9 @@ use lib.ListN.{getD, length, set}
 use Rattle.laws.specs.Counting.{bit, count, first}
 use Rattle.sheet.specs.declared.Edge.{Edge}
 use Rattle.sheet.specs.Edges.{edgeAt}
-use Rattle.text.specs.declared.Line.{Line}
 use Rattle.text.specs.declared.Reading.{Reading}
 use Rattle.text.specs.declared.Reading.the-variants.{TooMuch, Malformed, Edges}
+use Rattle.text.specs.Said.{Said, malformed}
 use Rattle.text.specs.Numbers.{byteAt}
 use Rattle.text.specs.Lines.{newline, lineAt, isMalformed, edgeIn}
 
@@ -38,7 +38,7 @@ unfoldable pub lineStart : List ℕ → ℕ → ℕ
 lineStart s zero = 0
 lineStart s (suc n) = afterNewline s (lineStart s n)
 
-unfoldable pub lineOf : List ℕ → ℕ → Line
+unfoldable pub lineOf : List ℕ → ℕ → Said Edge
 lineOf s n = lineAt s (lineStart s n)
 
 -- the first malformed line of so many, counted from 0; as many as there are where none is
@@ -64,7 +64,7 @@ readingOf s room = cond (tooMuch s room) TooMuch (answerOf (lineCount s) (firstM
 -- the number and the place of each refusal; both 0 where the text is read
 abbrev pub readingNumber : Reading → ℕ
 readingNumber TooMuch = 2
-readingNumber (Malformed line) = 15
+readingNumber (Malformed line) = malformed
 readingNumber (Edges n) = 0
 
 abbrev pub readingPlace : Reading → ℕ

@@ -4,6 +4,7 @@
 ghost use mathlib.Core.Path.{_≡_};
 ghost use Prim.Native.Nat.{_+_, _*_, _-_, _<_, _≤_};
 ghost use lib.ListN.{length};
+ghost use Rattle.text.specs.Said.{numberSaid, stepSaid, lineSaid};
 ghost use Rattle.text.specs.Numbers.{byteAt, isDigit, minusAt, digitsAt, digitsFrom, valueAt, isNumeral, withSign, numberAt};
 ghost use Rattle.text.specs.Lines.{pastAt, fieldAt, lineAt};
 ghost use Rattle.text.specs.Texts.{readingNumber, readingPlace, newlines, unended, lineCount, placed, LinesTried, Outcome};
@@ -180,7 +181,7 @@ fn digits_at(text: &[u8], at: usize) -> usize
 impl Cursor {
     // The number that stands here.
     pub fn number(self, text: &[u8]) -> Number
-        ensures { λ r. ⌜ r ≡ numberAt (now (text .entry)) (self .at) ⌝ }
+        ensures { λ r. ⌜ numberSaid r ≡ numberAt (now (text .entry)) (self .at) ⌝ }
     {
         let at = self.at;
         let minus = minus_at(text, at);
@@ -195,7 +196,7 @@ impl Cursor {
 
     // One byte that must stand here.
     pub fn past(self, text: &[u8], byte: u8) -> Step
-        ensures { λ r. ⌜ r ≡ pastAt (now (text .entry)) (self .at) byte ⌝ }
+        ensures { λ r. ⌜ stepSaid r ≡ pastAt (now (text .entry)) (self .at) byte ⌝ }
     {
         let at = self.at;
         if byte_at(text, at, 0) == wide(byte) {
@@ -206,7 +207,7 @@ impl Cursor {
 
     // A number and the byte that must stand after it.
     fn field(self, text: &[u8], after: u8) -> Number
-        ensures { λ r. ⌜ r ≡ fieldAt (now (text .entry)) after (self .at) ⌝ }
+        ensures { λ r. ⌜ numberSaid r ≡ fieldAt (now (text .entry)) after (self .at) ⌝ }
     {
         let Number::Value(value, end) = self.number(text) else {
             return Number::Malformed;
@@ -219,7 +220,7 @@ impl Cursor {
 
     // The line that begins here: tail x, tail y, head x, head y.
     pub fn line(self, text: &[u8]) -> Line
-        ensures { λ r. ⌜ r ≡ lineAt (now (text .entry)) (self .at) ⌝ }
+        ensures { λ r. ⌜ lineSaid r ≡ lineAt (now (text .entry)) (self .at) ⌝ }
     {
         let Number::Value(tail_x, second) = self.field(text, b' ') else {
             return Line::Malformed;
