@@ -16,9 +16,8 @@ use Rattle.sheet.specs.declared.Refusal.{Refusal}
 use Rattle.sheet.specs.declared.Refusal.the-variants.{NoRow}
 use Rattle.sheet.specs.declared.Check.{Check}
 use Rattle.sheet.specs.declared.Check.the-variants as check
-use Rattle.sheet.specs.declared.Check.the-variants.{Passed}
 use Rattle.sheet.specs.Edges.{edgeAt, edgesIn}
-use Rattle.sheet.specs.Answers.{Call, checked, numberOf, zeros}
+use Rattle.sheet.specs.Answers.{Call, checked, answered, numberOf, zeros}
 use Rattle.checks.proofs.AnswerSheet.{Row, row-1, row-2, row-3, row-4, row-5, row-6, row-7, row-8, row-9, no-row, row}
 use Rattle.steps.specs.declared.End.{End}
 use Rattle.steps.specs.declared.End.the-variants.{Done, NoFreeRow, Overrun}
@@ -29,7 +28,8 @@ use Rattle.journal.specs.Layout.{recordSlice}
 use Rattle.sweep.specs.declared.Swept.{Swept}
 use Rattle.sweep.specs.Slices.{room, lentRoom, swept, isDone}
 use Rattle.sweep.specs.Lookup.{tables, reading}
-use Rattle.numbering.specs.Outcome.{Lent, leaving, sweptUp, readDown, afterSweep, sweeps, inJournal, wholeJournal, afterChecks, callOf, outcome}
+use Rattle.numbering.specs.Outcome.{Lent, leaving, callOf, up, endingBy, leaves, outcome}
+use Rattle.numbering.specs.OnSlices.{sweptUp, readDown, afterSweep, sweeps, inJournal, wholeJournal, sweepsOn}
 
 pub is-done-end : (u : End) → isDone u ≡ true → u ≡ Done
 is-done-end Done h = refl
@@ -47,11 +47,11 @@ module _ (l : Lent) (few : edgesIn (l .list) ≤ 4096) (eight : length (l .journ
   records-fit = omega (arith, within .kept, eight)
 
   pub peak-fits : sweptUp l .state .end ≡ Done → sweptUp l .state .peak ≤ 8192
-  peak-fits d = omega (arith, within .little d, records-fit)
+  peak-fits d = omega (arith, within .by-name, within .little d, records-fit)
 
   pub edge-fits : sweptUp l .edge ≤ 4096
   unfolding sweptUp
-  edge-fits = omega (arith, edge-within (lentRoom (l .rows) (l .journal)) (λ i. listEdge i (edgeAt (l .list) i .tail) (edgeAt (l .list) i .head)) (start (l .rows) (l .journal)) (edgesIn (l .list)))
+  edge-fits = omega (arith, edge-within (lentRoom (l .rows) (l .journal)) (λ i. listEdge i (edgeAt (l .list) i .tail) (edgeAt (l .list) i .head)) (start 0 (l .rows) (l .journal)) (edgesIn (l .list)))
 
 -- the state after the sweep up, as the code has it
 module _ (l : Lent) {rows₁ journal₁ : List ℤ} {w : Swept} (E : swept rows₁ journal₁ w ≡ sweptUp l) (same-journal : length journal₁ ≡ length (l .journal)) where
@@ -96,7 +96,7 @@ module _ (l : Lent) (long : 8 * edgesIn (l .list) ≤ length (l .journal)) where
   pub part-long : length (inJournal l .journal) ≡ 8 * edgesIn (l .list)
   part-long = length-take-le (8 * edgesIn (l .list)) (l .journal) long
 
-  pub behind : {a : Answer} {p q : List ℕ} {part journal₂ rows₂ : List ℤ} → leaving a p q part rows₂ ≡ sweeps (inJournal l) → length part ≡ 8 * edgesIn (l .list) → journal₂ ≡ take (4 * (2 * edgesIn (l .list))) (part ++ drop (8 * edgesIn (l .list)) (l .journal)) ++ replicate (length (part ++ drop (8 * edgesIn (l .list)) (l .journal)) - 4 * (2 * edgesIn (l .list))) (pos 0) → leaving a p q journal₂ rows₂ ≡ afterChecks l Passed
+  pub behind : {a : Answer} {p q : List ℕ} {part journal₂ rows₂ : List ℤ} → leaving a p q part rows₂ ≡ sweeps (inJournal l) → length part ≡ 8 * edgesIn (l .list) → journal₂ ≡ take (4 * (2 * edgesIn (l .list))) (part ++ drop (8 * edgesIn (l .list)) (l .journal)) ++ replicate (length (part ++ drop (8 * edgesIn (l .list)) (l .journal)) - 4 * (2 * edgesIn (l .list))) (pos 0) → leaving a p q journal₂ rows₂ ≡ sweepsOn l
   behind {a} {p} {q} {part} {journal₂} {rows₂} E same j =
       (λ i. leaving a p q ((j ∙ whole) i) rows₂) ∙ (λ i. wholeJournal (length (l .journal)) (E i))
     where
@@ -126,9 +126,11 @@ no-ten (row-8 a b d) = refl
 no-ten (row-9 a b d e) = refl
 no-ten (no-row a b d e) = refl
 
+pub never-ten : (c : Call) {r : Refusal} → checked c ≡ check.Refused r → eqb (numberOf r) 10 ≡ false
+never-ten c e = ap isTen (sym e) ∙ no-ten (row c)
+
 pub when-refused : (l : Lent) (r : Refusal) → checked (callOf l) ≡ check.Refused r → leaving (answer.Refused r) (l .polygons) (l .sequences) (l .journal) (l .rows) ≡ outcome l
 unfolding outcome
-when-refused l r e = ap (λ t. leaving (answer.Refused r) (l .polygons) (l .sequences) (cond t (zeros (l .journal)) (l .journal)) (cond t (zeros (l .rows)) (l .rows))) (sym ten) ∙ ap (afterChecks l) (sym e)
-  where
-    ten : eqb (numberOf r) 10 ≡ false
-    ten = ap isTen (sym e) ∙ no-ten (row (callOf l))
+when-refused l r e =
+    ap (λ t. leaving (answer.Refused r) (l .polygons) (l .sequences) (cond t (zeros (l .journal)) (l .journal)) (cond t (zeros (l .rows)) (l .rows))) (sym (never-ten (callOf l) e))
+    ∙ ap (λ x. leaves l (answered x (endingBy l (up l .state .end)))) (sym e)

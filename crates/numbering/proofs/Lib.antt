@@ -5,5 +5,4 @@ pub mod Renamed
 pub mod MatchingDown
 pub mod Running
 pub mod Promising
-pub mod PeakExact
 pub mod Worked

@@ -1,78 +1,158 @@
 -- Every outcome keeps the promise. A call ends in one of three ways: its checks refuse it, its sweep is done, or no row was free; only the second is
--- accepted, and there the numbers are those of crates/hartley (Running).
+-- accepted, and there the numbers are those of crates/hartley (Running). The peak is exact since the run with as many rows as the peak, or more, is the
+-- same to the last record, and the run with fewer ends without a free row.
 use mathlib.Core.Path.{_≡_, refl, sym, ap, _∙_, subst}
 use mathlib.Core.Logic.{_⊎_, ⊎-elim}
-use Prim.Native.Nat.{ℕ, _+_, _*_, _≤_}
+use mathlib.Core.List.{List}
+use Prim.Native.Nat.{ℕ, _+_, _*_, _≤_, _<_}
 use native.Mathlib.Omega.{arith}
+use lib.Dec.{eqb}
+use lib.IntN.{ℤ}
 use lib.ListN.{length, getD}
-use Rattle.sheet.specs.declared.Answer.the-variants as answer
-use Rattle.sheet.specs.declared.Answer.the-variants.{Accepted}
+use Rattle.laws.proofs.Deciding.{not-both}
+use Rattle.laws.specs.Listing.{listed, listOf}
+use Rattle.laws.proofs.Listing.{getD-listOf}
+use Rattle.sheet.specs.declared.Answer.{Answer}
+use Rattle.sheet.specs.declared.Answer.the-variants.{Accepted, Refused}
 use Rattle.sheet.specs.declared.Check.{Check}
 use Rattle.sheet.specs.declared.Check.the-variants as check
 use Rattle.sheet.specs.declared.Refusal.{Refusal}
 use Rattle.sheet.specs.declared.Refusal.the-variants.{NoRow}
 use Rattle.sheet.specs.Edges.{edgesIn, drawingOf}
 use Rattle.sheet.specs.Numbering.{Numbering}
-use Rattle.sheet.specs.Passing.{Enough}
-use Rattle.sheet.specs.Answers.{checked}
-use Rattle.steps.specs.Swept.{rowsIn}
+use Rattle.sheet.specs.Answers.{numberOf, checked, answered, followedByZeros}
+use Rattle.sheet.proofs.RowsEnough.{rowsEnough, rows-enough}
+use Rattle.checks.proofs.Passed.{passed}
 use Rattle.steps.specs.declared.End.{End}
 use Rattle.steps.specs.declared.End.the-variants.{Done, NoFreeRow}
-use Rattle.numbering.specs.Outcome.{Lent, Left, callOf, inJournal, sweptUp, readDown, refused, accepted, afterSweep, sweeps, wholeJournal, afterChecks, outcome}
-use Rattle.numbering.specs.Promised.{Promised}
-use Rattle.numbering.proofs.Running.{numbers, records-and-polygons, no-overrun, enough}
+use Rattle.steps.specs.Rows.{recordNumbers}
+use Rattle.steps.specs.SweepDown.{naturalPart}
+use Rattle.steps.specs.Swept.{rowsIn, readDown, LacksRow}
+use Rattle.steps.proofs.Reaching.{SameRun}
+use Rattle.hartley.proofs.Results as results
+use Rattle.numbering.specs.Outcome.{Lent, Left, callOf, up, down, endingBy, leaves, outcome}
+use Rattle.numbering.specs.Promised.{Promised, SameCall, RowsEnough, withRows}
+use Rattle.numbering.proofs.Leaving.{never-ten}
+use Rattle.numbering.proofs.Renamed.{numbering-same}
+use Rattle.numbering.proofs.Running.{few, ends, numbers, records-and-polygons, outcome-by}
 
 -- the three ways, with what the outcome then is
 pub data Way (l : Lent) : Type 0 where
-  at-checks : (r : Refusal) → outcome l ≡ refused l r → (checked (callOf l) ≡ check.Passed → ⊥) → Way l
-  done : (ok : checked (callOf l) ≡ check.Passed) (d : sweptUp (inJournal l) .state .end ≡ Done) → outcome l ≡ wholeJournal (length (l .journal)) (accepted (inJournal l) (sweptUp (inJournal l)) (readDown (inJournal l) (sweptUp (inJournal l)))) → Way l
-  no-row : (ok : checked (callOf l) ≡ check.Passed) (d : sweptUp (inJournal l) .state .end ≡ NoFreeRow) → outcome l ≡ wholeJournal (length (l .journal)) (refused (inJournal l) (NoRow (sweptUp (inJournal l) .edge))) → Way l
-
-way-after : (l : Lent) (ok : checked (callOf l) ≡ check.Passed) → (sweptUp (inJournal l) .state .end ≡ Done) ⊎ (sweptUp (inJournal l) .state .end ≡ NoFreeRow) → Way l
-unfolding outcome sweeps
-way-after l ok t = ⊎-elim (λ d. done ok d (after d)) (λ d. no-row ok d (after d)) t
-  where
-    after : {u : End} → sweptUp (inJournal l) .state .end ≡ u → afterChecks l (checked (callOf l)) ≡ wholeJournal (length (l .journal)) (afterSweep (inJournal l) (sweptUp (inJournal l)) u)
-    after d = ap (afterChecks l) ok ∙ ap (λ u. wholeJournal (length (l .journal)) (afterSweep (inJournal l) (sweptUp (inJournal l)) u)) d
+  at-checks : (r : Refusal) → checked (callOf l) ≡ check.Refused r → outcome l ≡ leaves l (Refused r) → Way l
+  done : (ok : checked (callOf l) ≡ check.Passed) (d : up l .state .end ≡ Done) → outcome l ≡ leaves l (Accepted (down l .polygons) (up l .state .peak) (up l .state .records)) → Way l
+  no-row : (ok : checked (callOf l) ≡ check.Passed) (d : up l .state .end ≡ NoFreeRow) → outcome l ≡ leaves l (Refused (NoRow (up l .edge))) → Way l
 
 pub way : (l : Lent) → Way l
 way l = by (checked (callOf l)) refl
   where
     by : (x : Check) → checked (callOf l) ≡ x → Way l
-    by (check.Refused r) e = at-checks r ((unfold outcome in ap (afterChecks l) e)) (λ ok. let z : _≡_ {A = ℕ} 0 1 = cc in omega arith)
-    by check.Passed e = way-after l e (no-overrun l e)
+    by (check.Refused r) e = at-checks r e (unfold outcome in ap (λ x. leaves l (answered x (endingBy l (up l .state .end)))) e)
+    by check.Passed e = ⊎-elim (λ d. done e d (outcome-by l e d)) (λ d. no-row e d (outcome-by l e d)) (ends l e)
+
+-- an accepted call is one whose sweep was done, and its numbers are the sweep's
+record AcceptedBy (l : Lent) (polygons peak records : ℕ) : Type 0 where
+  ok : checked (callOf l) ≡ check.Passed
+  is-done : up l .state .end ≡ Done
+  outcome-is : outcome l ≡ leaves l (Accepted (down l .polygons) (up l .state .peak) (up l .state .records))
+  polygons-are : down l .polygons ≡ polygons
+  peak-is : up l .state .peak ≡ peak
+  records-are : up l .state .records ≡ records
+
+not-accepted : {r : Refusal} {p k m : ℕ} → Refused r ≡ Accepted p k m → ⊥
+not-accepted f = let z : _≡_ {A = ℕ} 0 1 = cc in omega arith
+
+accepted-by : (l : Lent) (p k m : ℕ) → outcome l .answer ≡ Accepted p k m → AcceptedBy l p k m
+accepted-by l p k m q = by (way l)
+  where
+    by : Way l → AcceptedBy l p k m
+    by (at-checks r n e) = absurd (not-accepted (sym (ap (λ x. x .answer) e) ∙ q))
+    by (no-row ok d e) = absurd (not-accepted (sym (ap (λ x. x .answer) e) ∙ q))
+    by (done ok d e) =
+        let f : Accepted (down l .polygons) (up l .state .peak) (up l .state .records) ≡ Accepted p k m = sym (ap (λ x. x .answer) e) ∙ q in
+        record { ok = ok; is-done = d; outcome-is = e; polygons-are = cc; peak-is = cc; records-are = cc }
 
 module _ (l : Lent) where
   numbered : (polygons peak records : ℕ) → outcome l .answer ≡ Accepted polygons peak records → Numbering (drawingOf (l .list)) (λ e. getD (outcome l .polygons) e 0) (λ e. getD (outcome l .sequences) e 0) polygons
-  numbered p k m q = by (way l)
-    where
-      by : Way l → Numbering (drawingOf (l .list)) (λ e. getD (outcome l .polygons) e 0) (λ e. getD (outcome l .sequences) e 0) p
-      by (at-checks r e n) = let f : answer.Refused r ≡ Accepted p k m = sym (ap (λ x. x .answer) e) ∙ q in let z : _≡_ {A = ℕ} 0 1 = cc in absurd (omega arith)
-      by (no-row ok d e) = let f : answer.Refused (NoRow (sweptUp (inJournal l) .edge)) ≡ Accepted p k m = sym (ap (λ x. x .answer) e) ∙ q in let z : _≡_ {A = ℕ} 0 1 = cc in absurd (omega arith)
-      by (done ok d e) =
-          let f : Accepted (readDown (inJournal l) (sweptUp (inJournal l)) .polygons) (sweptUp (inJournal l) .state .peak) (sweptUp (inJournal l) .state .records) ≡ Accepted p k m = sym (ap (λ x. x .answer) e) ∙ q in
-          let g : readDown (inJournal l) (sweptUp (inJournal l)) .polygons ≡ p = cc in
-          subst (λ (x : Left). Numbering (drawingOf (l .list)) (λ e. getD (x .polygons) e 0) (λ e. getD (x .sequences) e 0) p) (sym e) (subst (λ (n : ℕ). Numbering (drawingOf (l .list)) (λ e. getD (readDown (inJournal l) (sweptUp (inJournal l)) .answers .polygons) e 0) (λ e. getD (readDown (inJournal l) (sweptUp (inJournal l)) .answers .sequences) e 0) n) g (numbers l ok d))
+  unfolding drawingOf
+  numbered p k m q =
+      let A = accepted-by l p k m q in
+      rw (A .outcome-is, ← A .polygons-are)
+      (numbering-same (λ e h. getD-listOf 0 (λ i. down l .answers i .polygon) (edgesIn (l .list)) e h) (λ e h. getD-listOf 0 (λ i. naturalPart (down l .answers i .sequence)) (edgesIn (l .list)) e h) (numbers l (A .ok) (A .is-done)))
 
   few-records : (polygons peak records : ℕ) → outcome l .answer ≡ Accepted polygons peak records → records + polygons ≤ 2 * edgesIn (l .list)
-  few-records p k m q = by (way l)
-    where
-      by : Way l → m + p ≤ 2 * edgesIn (l .list)
-      by (at-checks r e n) = let f : answer.Refused r ≡ Accepted p k m = sym (ap (λ x. x .answer) e) ∙ q in let z : _≡_ {A = ℕ} 0 1 = cc in absurd (omega arith)
-      by (no-row ok d e) = let f : answer.Refused (NoRow (sweptUp (inJournal l) .edge)) ≡ Accepted p k m = sym (ap (λ x. x .answer) e) ∙ q in let z : _≡_ {A = ℕ} 0 1 = cc in absurd (omega arith)
-      by (done ok d e) =
-          let f : Accepted (readDown (inJournal l) (sweptUp (inJournal l)) .polygons) (sweptUp (inJournal l) .state .peak) (sweptUp (inJournal l) .state .records) ≡ Accepted p k m = sym (ap (λ x. x .answer) e) ∙ q in
-          let g : readDown (inJournal l) (sweptUp (inJournal l)) .polygons ≡ p = cc in
-          let h : sweptUp (inJournal l) .state .records ≡ m = cc in
-          omega (arith, g, h, records-and-polygons l ok d)
+  few-records p k m q = let A = accepted-by l p k m q in omega (arith, A .polygons-are, A .records-are, records-and-polygons l (A .ok) (A .is-done))
 
-  enough-rows : checked (callOf l) ≡ check.Passed → (polygon sequence : ℕ → ℕ) (n : ℕ) → Numbering (drawingOf (l .list)) polygon sequence n → (rows : ℕ) → Enough (drawingOf (l .list)) polygon rows → rows ≤ rowsIn (l .rows) → (polygons : ℕ) × (peak : ℕ) × (records : ℕ) × (outcome l .answer ≡ Accepted polygons peak records)
-  enough-rows ok polygon sequence n N rows E h = by (way l)
+  -- demand 3
+  one-film : (p q : ℕ) → drawingOf (l .list) .film p ≡ drawingOf (l .list) .film q
+  unfolding drawingOf
+  one-film p q = refl
+
+  enough-there : checked (callOf l) ≡ check.Passed → 0 < edgesIn (l .list) → RowsEnough l
+  unfolding drawingOf
+  enough-there ok some =
+      let N = results.numbering-exists (passed (callOf l) ok .sheet) (few l ok) one-film in
+      record { polygon = N .0; sequence = N .1; polygons = N .2; numbering = N .3; rows = rowsEnough (drawingOf (l .list)) (N .0); enough = rows-enough (drawingOf (l .list)) (N .0) some }
+
+  enough-rows : checked (callOf l) ≡ check.Passed → (E : RowsEnough l) → E .rows ≤ rowsIn (l .rows) → (polygons : ℕ) × (peak : ℕ) × (records : ℕ) × (outcome l .answer ≡ Accepted polygons peak records)
+  unfolding up drawingOf
+  enough-rows ok E h =
+      (_, _, _, ap (λ x. x .answer) (outcome-by l ok (results.enough-done (passed (callOf l) ok .sheet) (few l ok) (rowsIn (l .rows)) (E .polygon) (E .numbering .shared) (E .rows) (E .enough) h)))
+
+  -- refusal 10
+  lacks-row : (e : ℕ) → outcome l .answer ≡ Refused (NoRow e) → (checked (callOf l) ≡ check.Passed) × LacksRow (drawingOf (l .list)) (rowsIn (l .rows)) e
+  lacks-row e q = by (way l)
     where
-      by : Way l → (polygons : ℕ) × (peak : ℕ) × (records : ℕ) × (outcome l .answer ≡ Accepted polygons peak records)
-      by (at-checks r e not) = absurd (not ok)
-      by (no-row ok₁ d e) = let f : NoFreeRow ≡ Done = sym d ∙ enough l ok polygon sequence n N rows E h in let z : _≡_ {A = ℕ} 0 1 = cc in absurd (omega arith)
-      by (done ok₁ d e) = (_, _, _, ap (λ x. x .answer) e)
+      by : Way l → (checked (callOf l) ≡ check.Passed) × LacksRow (drawingOf (l .list)) (rowsIn (l .rows)) e
+      by (at-checks r n w) = let f : Refused r ≡ Refused (NoRow e) = sym (ap (λ x. x .answer) w) ∙ q in let g : r ≡ NoRow e = cc in absurd (not-both (ap (λ x. eqb (numberOf x) 10) g) (never-ten (callOf l) n))
+      by (done ok d w) = absurd (not-accepted (sym q ∙ ap (λ x. x .answer) w))
+      by (no-row ok d w) =
+          let f : Refused (NoRow (up l .edge)) ≡ Refused (NoRow e) = sym (ap (λ x. x .answer) w) ∙ q in
+          let g : up l .edge ≡ e = cc in
+          (ok, subst (λ (k : ℕ). LacksRow (drawingOf (l .list)) (rowsIn (l .rows)) k) g (unfold up drawingOf in results.lacks-row (passed (callOf l) ok .sheet) (few l ok) (rowsIn (l .rows)) d))
+
+  no-row-then : (e : ℕ) → checked (callOf l) ≡ check.Passed → LacksRow (drawingOf (l .list)) (rowsIn (l .rows)) e → outcome l .answer ≡ Refused (NoRow e)
+  unfolding up drawingOf
+  no-row-then e ok L =
+      let s = results.lacking-row (passed (callOf l) ok .sheet) (few l ok) (rowsIn (l .rows)) e L in
+      ap (λ x. x .answer) (outcome-by l ok (s .0)) ∙ ap (λ k. Refused (NoRow k)) (s .1)
+
+  -- the peak is exact
+  module _ (p k m : ℕ) (q : outcome l .answer ≡ Accepted p k m) (rows : List ℤ) where
+    A : AcceptedBy l p k m
+    A = accepted-by l p k m q
+
+    peak-enough : k ≤ rowsIn rows → SameCall (outcome (withRows l rows)) (outcome l)
+    unfolding up down drawingOf
+    peak-enough h =
+        let S = results.peak-suffices (passed (callOf l) (A .ok) .sheet) (few l (A .ok)) (rowsIn (l .rows)) (rowsIn rows) (A .is-done) (omega (arith, h, A .peak-is)) in
+        let o = outcome-by (withRows l rows) (A .ok) (S .end ∙ A .is-done) in
+        same o (A .outcome-is) S
+      where
+        same : outcome (withRows l rows) ≡ leaves (withRows l rows) (Accepted (down (withRows l rows) .polygons) (up (withRows l rows) .state .peak) (up (withRows l rows) .state .records)) → outcome l ≡ leaves l (Accepted (down l .polygons) (up l .state .peak) (up l .state .records)) → SameRun (up (withRows l rows)) (up l) → SameCall (outcome (withRows l rows)) (outcome l)
+        same o a S =
+            record {
+              answer = ap (λ x. x .answer) o ∙ (λ i. Accepted (readDown (S .journal i) (S .records i) .polygons) (S .peak i) (S .records i)) ∙ sym (ap (λ x. x .answer) a);
+              polygons = ap (λ x. x .polygons) o ∙ (λ i. listOf (λ e. readDown (S .journal i) (S .records i) .answers e .polygon) (edgesIn (l .list))) ∙ sym (ap (λ x. x .polygons) a);
+              sequences = ap (λ x. x .sequences) o ∙ (λ i. listOf (λ e. naturalPart (readDown (S .journal i) (S .records i) .answers e .sequence)) (edgesIn (l .list))) ∙ sym (ap (λ x. x .sequences) a);
+              journal = ap (λ x. x .journal) o ∙ (λ i. followedByZeros (listed (λ j. recordNumbers (S .journal i j)) (S .records i)) (length (l .journal))) ∙ sym (ap (λ x. x .journal) a);
+            }
+
+    fewer-refused : rowsIn rows < k → (e : ℕ) × (outcome (withRows l rows) .answer ≡ Refused (NoRow e))
+    unfolding up drawingOf
+    fewer-refused h =
+        (_, ap (λ x. x .answer) (outcome-by (withRows l rows) (A .ok) (results.fewer-refused (passed (callOf l) (A .ok) .sheet) (few l (A .ok)) (rowsIn (l .rows)) (rowsIn rows) (A .is-done) (omega (arith, h, A .peak-is)))))
 
 pub promised : (l : Lent) (x : Left) → x ≡ outcome l → Promised l x
-promised l x e = subst (Promised l) (sym e) (record { outcome-is = refl; numbered = numbered l; few-records = few-records l; enough-rows = enough-rows l })
+promised l x e =
+    subst (Promised l) (sym e)
+    (record {
+      outcome-is = refl;
+      numbered = numbered l;
+      few-records = few-records l;
+      enough-there = enough-there l;
+      enough-rows = enough-rows l;
+      peak-enough = peak-enough l;
+      fewer-refused = fewer-refused l;
+      lacks-row = lacks-row l;
+      no-row = no-row-then l;
+    })

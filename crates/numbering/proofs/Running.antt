@@ -1,55 +1,68 @@
--- A call that passed its checks, on the slices and on plain tables: the two runs end alike, so what crates/hartley shows of the plain run holds of what
--- the call answers and leaves.
-use mathlib.Core.Path.{_≡_, refl, sym, _∙_}
-use mathlib.Core.Logic.{_⊎_, inl, inr, ⊎-elim}
-use mathlib.Core.List.{List}
-use Prim.Native.Nat.{ℕ, _+_, _*_, _≤_, _<_}
+-- A call that passed its checks runs on its slices as the steps run on plain tables: rows and records hold the same all the way up, and what is read down
+-- is the numbering of the list whatever the look-up table holds before, of which there is one. So what the slices are left with is the outcome.
+use mathlib.Core.Path.{_≡_, refl, sym, ap, _∙_}
+use mathlib.Core.Logic.{_⊎_, ⊎-elim}
+use mathlib.Core.List.{List, _++_, append-assoc}
+use Prim.Native.Nat.{ℕ, _+_, _-_, _*_, _≤_, _<_}
 use native.Mathlib.Omega.{arith}
-use lib.IntN.{ℤ, pos, negsuc}
-use lib.ListN.{length, getD}
-use lib.Seq.{length-take-le}
+use lib.IntN.{ℤ, pos}
+use lib.ListN.{length, getD, take, drop, replicate, length-append, length-replicate, replicate-append-replicate}
+use lib.Seq.{length-take-le, getD-take, getD-drop, ext-getD}
+use Rattle.laws.specs.Listing.{listed, listOf}
+use Rattle.laws.proofs.Listing.{listed-is, list-is}
+use Rattle.sheet.specs.declared.Answer.the-variants.{Accepted, Refused}
 use Rattle.sheet.specs.declared.Check.the-variants.{Passed}
+use Rattle.sheet.specs.declared.Refusal.the-variants.{NoRow}
 use Rattle.sheet.specs.Edges.{Drawing, edgeAt, edgesIn, drawingOf}
 use Rattle.sheet.specs.Numbering.{Numbering}
-use Rattle.sheet.specs.Passing.{Enough}
-use Rattle.sheet.specs.Answers.{checked}
+use Rattle.sheet.specs.Answers.{checked, answered, followedByZeros}
+use Rattle.sheet.proofs.OneNumbering.{same-polygon, same-sequence, same-polygons}
 use Rattle.checks.proofs.Passed.{AllPassed, passed}
+use Rattle.steps.specs.declared.End.{End}
 use Rattle.steps.specs.declared.End.the-variants.{Done, NoFreeRow}
-use Rattle.steps.specs.Rows.{Row, Record, closing}
+use Rattle.steps.specs.Rows.{Record, recordNumbers}
 use Rattle.steps.specs.SweepUp.{Sweep, listEdge, start}
-use Rattle.steps.specs.SweepDown.{Pair, Reading}
-use Rattle.steps.specs.Plain.{newRow, plainTables, plainJournal}
+use Rattle.steps.specs.SweepDown.{naturalPart, Pair, Reading}
+use Rattle.steps.specs.Plain.{plainTables, plainJournal}
+use Rattle.steps.specs.Swept.{rowsIn, plainRoom, edgeOf, freeRows, noRecords, noPairs, sweptTo, readDown}
 use Rattle.steps.proofs.Alike.{Match, Alike, AlikeSweep, start-alike, sweep-alike}
 use Rattle.steps.proofs.AlikeDown.{MatchDown, AlikeReading, down-alike}
-use Rattle.steps.specs.Swept.{rowsIn}
-use Rattle.steps.specs.SweepDown.{naturalPart}
 use Rattle.journal.specs.Layout.{recordSlice, recordsIn}
 use Rattle.sweep.specs.Slices.{room}
 use Rattle.sweep.specs.Lookup.{numbersIn, tables, reading}
-use Rattle.hartley.specs.Swept.{swept, natural}
 use Rattle.hartley.proofs.Results as results
-use Rattle.numbering.specs.Outcome.{Lent, callOf, inJournal, sweptUp, readDown}
-use Rattle.numbering.proofs.Matching.{Ranked, HoldsRows, HoldsRecords, sliceRoom, plainRoom, matched}
+use Rattle.numbering.specs.Outcome.{Lent, Left, callOf, leaving, up, down, endingBy, leaves, outcome}
+use Rattle.numbering.specs.OnSlices as slices
+use Rattle.numbering.specs.OnSlices.{inJournal, wholeJournal, afterSweep, sweepsOn}
+use Rattle.numbering.proofs.Matching.{Ranked, HoldsRows, HoldsRecords, sliceRoom, matched}
 use Rattle.numbering.proofs.MatchingDown.{HoldsNumbers, HoldsAnswers, matched-down, fitting}
-use Rattle.numbering.proofs.Renamed.{numbering-same}
 
--- any rows and records to begin with
-abbrev pub anyRows : ℕ → Row ℕ
-anyRows r = newRow 0 0
+-- the numbers of the records that a slice holds
+held-numbers : {m n : ℕ} {s : List ℤ} {j : ℕ → Record} → HoldsRecords m n s j → n ≤ m → take (4 * n) s ≡ listed (λ k. recordNumbers (j k)) n
+held-numbers {m} {n} {s} {j} H l = listed-is 4 (λ k. recordNumbers (j k)) s n part
+  where
+    four : (i : ℕ) → i < n → 4 ≤ length (drop (4 * i) s)
+    four i h = omega (arith, lib.ListN.length-drop (4 * i) s, H .long)
 
-abbrev pub anyRecords : ℕ → Record
-anyRecords k = record { level = 0; name = 0; chain = closing; offset = pos 0 }
+    part : (i : ℕ) → i < n → take 4 (drop (4 * i) s) ≡ recordNumbers (j i)
+    part i h =
+        ext-getD (pos 0) (take 4 (drop (4 * i) s)) (recordNumbers (j i)) (length-take-le 4 (drop (4 * i) s) (four i h))
+        (λ q u. let v : q < 4 = omega (arith, u, length-take-le 4 (drop (4 * i) s) (four i h)) in getD-take 4 (drop (4 * i) s) q (pos 0) v ∙ getD-drop (4 * i) s q (pos 0) ∙ H .number i q h v)
 
-natural-same : (z : ℤ) → naturalPart z ≡ natural z
-unfolding naturalPart
-natural-same (pos n) = refl
-natural-same (negsuc n) = refl
+-- zeros behind zeros
+zeros-twice : (x : List ℤ) (n m : ℕ) → length x ≤ n → n ≤ m → followedByZeros (followedByZeros x n) m ≡ followedByZeros x m
+zeros-twice x n m l h =
+    let a : length (followedByZeros x n) ≡ n = length-append x (replicate (n - length x) (pos 0)) ∙ omega (arith, length-replicate (n - length x) (pos 0)) in
+    let b : (n - length x) + (m - n) ≡ m - length x = omega arith in
+    ap (λ k. followedByZeros x n ++ replicate (m - k) (pos 0)) a
+    ∙ append-assoc x (replicate (n - length x) (pos 0)) (replicate (m - n) (pos 0))
+    ∙ ap (λ z. x ++ z) (replicate-append-replicate (n - length x) (m - n) (pos 0) ∙ ap (λ k. replicate k (pos 0)) b)
 
 module _ (l : Lent) (ok : checked (callOf l) ≡ Passed) where
   abbrev all : AllPassed (callOf l)
   all = passed (callOf l) ok
 
-  abbrev pub sheet : Drawing
+  abbrev sheet : Drawing
   sheet = drawingOf (l .list)
 
   abbrev edges : ℕ
@@ -67,57 +80,65 @@ module _ (l : Lent) (ok : checked (callOf l) ≡ Passed) where
   abbrev records : ℕ
   records = recordsIn part
 
-  enough-records : 2 * sheet .edges ≤ records
+  same-records : records ≡ 2 * sheet .edges
   unfolding drawingOf
-  enough-records = omega (arith, part-long)
+  same-records = omega (arith, part-long)
 
   few-records : records ≤ 8192
   few-records = omega (arith, part-long, all .few)
 
-  few : sheet .edges ≤ 4096
+  pub few : drawingOf (l .list) .edges ≤ 4096
   unfolding drawingOf
   few = all .few
 
-  abbrev plain : Sweep (ℕ → Row ℕ) (ℕ → Record)
-  plain = swept sheet rows records anyRows anyRecords
+  -- the sweep up on the slices, and on plain tables
+  abbrev M : Match (sliceRoom rows records) (plainRoom sheet rows (2 * sheet .edges)) Ranked (HoldsRows rows) (HoldsRecords records) 8192 rows
+  M = matched (l .list) rows records (2 * sheet .edges) 8192 same-records few-records (omega arith)
 
-  abbrev M : Match (sliceRoom rows records) (plainRoom rows records) Ranked (HoldsRows rows) (HoldsRecords records) 8192
-  M = matched rows records 8192 few-records (omega arith)
-
-  same-start : Alike M 0 0 (start (l .rows) part) (start anyRows anyRecords)
+  same-start : Alike M 0 0 (start 0 (l .rows) part) (start rows freeRows noRecords)
   same-start =
       start-alike M
-      (record { long = omega arith; inside = omega arith; row = λ r h. absurd (omega arith) })
+      (record { long = omega arith; inside = omega arith; row = λ r h. absurd (omega arith); free = λ r a b. refl })
       (record { long = omega arith; entry = λ i h. absurd (omega arith); number = λ i q h u. absurd (omega arith) })
 
-  alike : AlikeSweep M (sweptUp (inJournal l)) plain
-  unfolding sweptUp room drawingOf
+  alike : AlikeSweep M (slices.sweptUp (inJournal l)) (up l)
+  unfolding slices.sweptUp up room sweptTo drawingOf
   alike =
-      sweep-alike M (λ i. listEdge i (edgeAt (l .list) i .tail) (edgeAt (l .list) i .head)) (λ i. listEdge i (sheet .tail i) (sheet .head i)) edges
+      sweep-alike M (λ i. listEdge i (edgeAt (l .list) i .tail) (edgeAt (l .list) i .head)) (edgeOf sheet) edges
       (λ i h. record { name = refl; small = omega (arith, h, all .few); tail = record { inside = all .tails-in-range i h; is-rank = refl }; head = record { inside = all .heads-in-range i h; is-rank = refl }; length = refl })
       same-start
 
-  same-end : sweptUp (inJournal l) .state .end ≡ plain .state .end
-  same-end = alike .state .end
+  -- the theory's run is this one
+  run-is : up l ≡ results.up (all .sheet) few rows
+  unfolding up drawingOf
+  run-is = refl
 
-  -- done: the records read down on the slices, and on plain tables that begin with what the slices hold
-  module _ (done : sweptUp (inJournal l) .state .end ≡ Done) where
-    abbrev plain-done : plain .state .end ≡ Done
-    plain-done = sym same-end ∙ done
+  -- no other end: done, or no free row
+  pub ends : (up l .state .end ≡ Done) ⊎ (up l .state .end ≡ NoFreeRow)
+  unfolding up drawingOf
+  ends = results.up-ends (all .sheet) few rows
 
-    abbrev anyNumbers : ℕ → Pair
-    anyNumbers r = numbersIn (sweptUp (inJournal l) .state .rows) r
+  -- done: the records read down on the slices, on plain tables that begin with what the slices hold, and on plain tables that begin empty
+  module _ (done : up l .state .end ≡ Done) where
+    abbrev swept : Sweep (List ℤ) (List ℤ)
+    swept = slices.sweptUp (inJournal l)
 
-    abbrev anyAnswers : ℕ → Pair
-    anyAnswers e = record { polygon = getD (l .polygons) e 0; sequence = pos (getD (l .sequences) e 0) }
+    done-too : results.up (all .sheet) few rows .state .end ≡ Done
+    done-too = ap (λ w. w .state .end) (sym run-is) ∙ done
 
-    abbrev plainRead : Reading (ℕ → Pair) (ℕ → Pair)
-    plainRead = results.down (all .sheet) few rows records enough-records anyRows anyRecords plain-done anyNumbers anyAnswers
+    abbrev heldPairs : ℕ → Pair
+    heldPairs r = numbersIn (swept .state .rows) r
+
+    abbrev heldAnswers : ℕ → Pair
+    heldAnswers e = record { polygon = getD (l .polygons) e 0; sequence = pos (getD (l .sequences) e 0) }
+
+    abbrev between : Reading (ℕ → Pair) (ℕ → Pair)
+    between = results.down (all .sheet) few rows done-too heldPairs heldAnswers
 
     abbrev D : MatchDown plainTables tables (HoldsNumbers rows) (HoldsAnswers edges) (fitting rows edges)
     D = matched-down rows edges (all .few)
 
-    same-begin : AlikeReading D (record { table = anyNumbers; answers = anyAnswers; polygons = 0 }) (reading (sweptUp (inJournal l) .state .rows) (l .polygons) (l .sequences) 0)
+    same-begin : AlikeReading D (record { table = heldPairs; answers = heldAnswers; polygons = 0 }) (reading (swept .state .rows) (l .polygons) (l .sequences) 0)
     unfolding naturalPart
     same-begin =
         record {
@@ -126,54 +147,75 @@ module _ (l : Lent) (ok : checked (callOf l) ≡ Passed) where
           polygons = refl;
         }
 
-    same-records : (k : ℕ) → k < plain .state .records → plainJournal .read (plain .state .journal) k ≡ recordSlice .read (sweptUp (inJournal l) .state .journal) k
-    unfolding plainJournal recordSlice
-    same-records k h = sym (alike .state .journal .entry k (omega (arith, h, alike .state .records)))
+    read-back : (k : ℕ) → k < results.up (all .sheet) few rows .state .records → plainJournal .read (results.up (all .sheet) few rows .state .journal) k ≡ recordSlice .read (swept .state .journal) k
+    unfolding plainJournal recordSlice up drawingOf
+    read-back k h = sym (alike .state .journal .entry k (omega (arith, h, alike .state .records)))
 
-    same-read : AlikeReading D plainRead (readDown (inJournal l) (sweptUp (inJournal l)))
-    unfolding readDown drawingOf
+    same-read : AlikeReading D between (slices.readDown (inJournal l) swept)
+    unfolding slices.readDown drawingOf up
     same-read =
         rw (alike .state .records)
-        (down-alike D plainJournal recordSlice (plain .state .journal) (sweptUp (inJournal l) .state .journal) (plain .state .records) same-records same-begin
-        (results.all-fits (all .sheet) few rows records enough-records anyRows anyRecords plain-done anyNumbers anyAnswers (fitting rows edges) (λ r h. h) (λ r v h f. (h, f)) (λ e v h f. (h, f))))
+        (down-alike D plainJournal recordSlice (up l .state .journal) (swept .state .journal) (up l .state .records) read-back same-begin
+        (results.all-fits (all .sheet) few rows done-too heldPairs heldAnswers (fitting rows edges) (λ r h. h) (λ r v h f. (h, f)) (λ e v h f. (h, f))))
 
-    -- demand 2, and the records
-    pub numbers : Numbering sheet (λ e. getD (readDown (inJournal l) (sweptUp (inJournal l)) .answers .polygons) e 0) (λ e. getD (readDown (inJournal l) (sweptUp (inJournal l)) .answers .sequences) e 0) (readDown (inJournal l) (sweptUp (inJournal l)) .polygons)
+    -- the two plain readings are numberings of the list, and so one
+    one-film : (p q : ℕ) → sheet .film p ≡ sheet .film q
     unfolding drawingOf
-    numbers =
-        rw (← same-read .polygons)
-        (numbering-same (λ e h. same-read .answers .polygon e h) (λ e h. same-read .answers .sequence e h ∙ natural-same (plainRead .answers e .sequence))
-        (results.numbering (all .sheet) few rows records enough-records anyRows anyRecords plain-done anyNumbers anyAnswers (λ p q. refl)))
+    one-film p q = refl
 
-    pub records-and-polygons : sweptUp (inJournal l) .state .records + readDown (inJournal l) (sweptUp (inJournal l)) .polygons ≤ 2 * edges
+    pub numbers : Numbering (drawingOf (l .list)) (λ e. down l .answers e .polygon) (λ e. naturalPart (down l .answers e .sequence)) (down l .polygons)
+    unfolding down up readDown drawingOf
+    numbers = results.numbering (all .sheet) few rows done-too noPairs noPairs one-film
+
+    between-numbers : Numbering sheet (λ e. between .answers e .polygon) (λ e. naturalPart (between .answers e .sequence)) (between .polygons)
+    between-numbers = results.numbering (all .sheet) few rows done-too heldPairs heldAnswers one-film
+
+    pub records-and-polygons : up l .state .records + down l .polygons ≤ 2 * edgesIn (l .list)
+    unfolding down up readDown drawingOf
+    records-and-polygons = results.few-records (all .sheet) few rows done-too noPairs noPairs
+
+    same-polygon-list : slices.readDown (inJournal l) swept .answers .polygons ≡ listOf (λ e. down l .answers e .polygon) edges
     unfolding drawingOf
-    records-and-polygons = omega (arith, results.few-records (all .sheet) few rows records enough-records anyRows anyRecords plain-done anyNumbers anyAnswers, alike .state .records, same-read .polygons)
+    same-polygon-list =
+        list-is 0 (λ e. down l .answers e .polygon) _ edges (same-read .answers .long .0)
+        (λ e h. same-read .answers .polygon e h ∙ same-polygon (all .sheet) numbers between-numbers e h)
 
-  -- no other end: done, or no free row
-  pub no-overrun : (sweptUp (inJournal l) .state .end ≡ Done) ⊎ (sweptUp (inJournal l) .state .end ≡ NoFreeRow)
-  no-overrun = ⊎-elim (λ h. inl (same-end ∙ h)) (λ h. inr (same-end ∙ h)) (results.up-ends (all .sheet) few rows records enough-records anyRows anyRecords)
+    same-sequence-list : slices.readDown (inJournal l) swept .answers .sequences ≡ listOf (λ e. naturalPart (down l .answers e .sequence)) edges
+    unfolding drawingOf
+    same-sequence-list =
+        list-is 0 (λ e. naturalPart (down l .answers e .sequence)) _ edges (same-read .answers .long .1)
+        (λ e h. same-read .answers .sequence e h ∙ same-sequence (all .sheet) numbers between-numbers e h)
 
-  -- demand 3: rows that are always enough
-  pub enough : (polygon sequence : ℕ → ℕ) (polygons : ℕ) → Numbering sheet polygon sequence polygons → (c : ℕ) → Enough sheet polygon c → c ≤ rowsIn (l .rows) → sweptUp (inJournal l) .state .end ≡ Done
-  enough polygon sequence polygons N c e h = same-end ∙ results.enough-done (all .sheet) few rows records enough-records anyRows anyRecords polygon (N .shared) c e h
+    same-count : slices.readDown (inJournal l) swept .polygons ≡ down l .polygons
+    same-count = sym (same-read .polygons) ∙ same-polygons (all .sheet) numbers between-numbers
 
-  -- the plain run tells how the call ended
-  pub record RunsAs : Type 0 where
-    pub end : sweptUp (inJournal l) .state .end ≡ swept (drawingOf (l .list)) (rowsIn (l .rows)) (recordsIn (inJournal l .journal)) anyRows anyRecords .state .end
-    pub peak : sweptUp (inJournal l) .state .peak ≡ swept (drawingOf (l .list)) (rowsIn (l .rows)) (recordsIn (inJournal l .journal)) anyRows anyRecords .state .peak
-    pub records : sweptUp (inJournal l) .state .records ≡ swept (drawingOf (l .list)) (rowsIn (l .rows)) (recordsIn (inJournal l .journal)) anyRows anyRecords .state .records
-    pub holds : HoldsRecords (recordsIn (inJournal l .journal)) (sweptUp (inJournal l) .state .records) (sweptUp (inJournal l) .state .journal) (swept (drawingOf (l .list)) (rowsIn (l .rows)) (recordsIn (inJournal l .journal)) anyRows anyRecords .state .journal)
-    pub kept : sweptUp (inJournal l) .state .records ≤ recordsIn (inJournal l .journal)
+    same-journal : followedByZeros (followedByZeros (take (4 * swept .state .records) (swept .state .journal)) (length part)) (length (l .journal)) ≡ followedByZeros (listed (λ k. recordNumbers (up l .state .journal k)) (up l .state .records)) (length (l .journal))
+    same-journal =
+        let front : take (4 * swept .state .records) (swept .state .journal) ≡ listed (λ k. recordNumbers (up l .state .journal k)) (up l .state .records) = held-numbers (alike .state .journal) (alike .state .kept) ∙ ap (listed (λ k. recordNumbers (up l .state .journal k))) (alike .state .records) in
+        let four : length (take (4 * swept .state .records) (swept .state .journal)) ≡ 4 * swept .state .records = length-take-le (4 * swept .state .records) (swept .state .journal) (omega (arith, alike .state .journal .long, alike .state .kept)) in
+        zeros-twice (take (4 * swept .state .records) (swept .state .journal)) (length part) (length (l .journal)) (omega (arith, four, alike .state .kept, part-long)) (omega (arith, part-long, all .journal))
+        ∙ ap (λ x. followedByZeros x (length (l .journal))) front
 
-  pub runs-as : RunsAs
-  runs-as = record { end = alike .state .end; peak = alike .state .peak; records = alike .state .records; holds = alike .state .journal; kept = alike .state .kept }
+    runs-done : sweepsOn l ≡ leaves l (Accepted (down l .polygons) (up l .state .peak) (up l .state .records))
+    unfolding slices.sweeps
+    runs-done =
+        ap (λ u. wholeJournal (length (l .journal)) (afterSweep (inJournal l) swept u)) (alike .state .end ∙ done)
+        ∙ (λ i. leaving (Accepted (same-count i) (alike .state .peak i) (alike .state .records i)) (same-polygon-list i) (same-sequence-list i) (same-journal i) (replicate (length (l .rows)) (pos 0)))
 
-  -- both lists are one number an edge long
-  pub lists-long : (done : sweptUp (inJournal l) .state .end ≡ Done) → (length (readDown (inJournal l) (sweptUp (inJournal l)) .answers .polygons) ≡ edgesIn (l .list)) × (length (readDown (inJournal l) (sweptUp (inJournal l)) .answers .sequences) ≡ edgesIn (l .list))
-  lists-long done = same-read done .answers .long
+  -- no free row: zeros
+  runs-stopped : up l .state .end ≡ NoFreeRow → sweepsOn l ≡ leaves l (Refused (NoRow (up l .edge)))
+  unfolding slices.sweeps
+  runs-stopped d =
+      let n : length part + (length (l .journal) - length part) ≡ length (l .journal) = omega (arith, part-long, all .journal) in
+      let long : length (replicate (length part) (pos 0)) ≡ length part = length-replicate (length part) (pos 0) in
+      let z : followedByZeros (replicate (length part) (pos 0)) (length (l .journal)) ≡ replicate (length (l .journal)) (pos 0) = ap (λ k. replicate (length part) (pos 0) ++ replicate (length (l .journal) - k) (pos 0)) long ∙ replicate-append-replicate (length part) (length (l .journal) - length part) (pos 0) ∙ ap (λ k. replicate k (pos 0)) n in
+      ap (λ u. wholeJournal (length (l .journal)) (afterSweep (inJournal l) (slices.sweptUp (inJournal l)) u)) (alike .state .end ∙ d)
+      ∙ (λ i. leaving (Refused (NoRow (alike .edge i))) (l .polygons) (l .sequences) (z i) (replicate (length (l .rows)) (pos 0)))
 
-  pub enough-room : 2 * drawingOf (l .list) .edges ≤ recordsIn (inJournal l .journal)
-  enough-room = enough-records
+  -- what the outcome is, by how the sweep up ends
+  pub outcome-by : {u : End} → up l .state .end ≡ u → outcome l ≡ leaves l (answered Passed (endingBy l u))
+  unfolding outcome
+  outcome-by d = λ i. leaves l (answered (ok i) (endingBy l (d i)))
 
-  pub few-edges : drawingOf (l .list) .edges ≤ 4096
-  few-edges = few
+  pub runs : sweepsOn l ≡ outcome l
+  runs = ⊎-elim (λ d. runs-done d ∙ sym (outcome-by d)) (λ d. runs-stopped d ∙ sym (outcome-by d)) ends

@@ -9,6 +9,7 @@ use lib.IntN.{pos}
 use lib.ListN.{length, getD, replicate}
 use native.Mathlib.Omega.{arith}
 use Rattle.laws.specs.Counting as counting
+use Rattle.laws.specs.Listing as listing
 use Rattle.sheet.specs.declared.Answer.{Answer}
 use Rattle.sheet.specs.declared.Answer.the-variants.{Accepted, Refused}
 use Rattle.sheet.specs.declared.Refusal.{Refusal}
@@ -24,10 +25,8 @@ use Rattle.sheet.specs.Answers.{numberOf, placeOf}
 use Rattle.sheet.proofs.Drawn.{triangle, twoEdges, square, twoPeaks, touching}
 use Rattle.steps.specs.SweepUp as up
 use Rattle.steps.specs.SweepDown as down
-use Rattle.rows.specs.Layout as rows
-use Rattle.journal.specs.Layout as journal
-use Rattle.sweep.specs.Slices as slices
-use Rattle.sweep.specs.Lookup as lookup
+use Rattle.steps.specs.Plain as plain
+use Rattle.steps.specs.Swept as swept
 use Rattle.numbering.specs.Outcome as outcomes
 use Rattle.numbering.specs.Outcome.{Lent, Left, outcome}
 use Rattle.numbering.specs.Promised.{Promised}
@@ -186,31 +185,15 @@ unfolding
     up.treat
     up.sweepUp
     down.sweepDown
-    rows.pointPlaces
-    rows.levelIn
-    rows.freedNumber
-    rows.lookBranch
-    rows.lookRow
-    rows.openedIn
-    rows.movedIn
-    rows.finishedIn
-    rows.freedIn
-    rows.rowSlice
-    journal.naturalPart
-    journal.chainIn
-    journal.rowNumber
-    journal.recordAt
-    journal.writtenIn
-    journal.recordSlice
-    slices.room
-    lookup.narrowed
-    lookup.numbersIn
-    lookup.givenIn
-    lookup.answeredIn
-    lookup.tables
-    outcomes.sweptUp
-    outcomes.readDown
-    outcomes.sweeps
+    down.naturalPart
+    plain.plainTable
+    plain.plainJournal
+    plain.plainTables
+    swept.sweptTo
+    swept.readDown
+    listing.listed
+    outcomes.up
+    outcomes.down
     outcomes.outcome
 all-worked =
     record {

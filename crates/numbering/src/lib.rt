@@ -6,8 +6,8 @@ use sheet::Refusal;
 ghost use mathlib.Core.Path.{_≡_};
 ghost use Prim.Native.Nat.{_*_, _/_, _≤_};
 ghost use lib.ListN.{length};
-ghost use Rattle.sheet.specs.declared.Check.the-variants.{Passed};
-ghost use Rattle.numbering.specs.Outcome.{lent, leaving, sweeps, afterChecks};
+ghost use Rattle.numbering.specs.OnSlices.{sweeps, sweepsOn};
+ghost use Rattle.numbering.specs.Outcome.{lent, leaving};
 ghost use Rattle.numbering.specs.Promised.{Promised};
 
 // How many numbers of the journal an edge needs.
@@ -40,7 +40,7 @@ fn number_checked(
     rows: &mut [i32],
 ) -> Answer
     requires { ⌜ (length (now edges) / 4 ≤ 4096) × (8 * (length (now edges) / 4) ≤ length (now journal)) ⌝ }
-    ensures { λ r. ⌜ leaving r (now (polygons .exit)) (now (sequences .exit)) (now (journal .exit)) (now (rows .exit)) ≡ afterChecks (lent (now (edges .entry)) (now (polygons .entry)) (now (sequences .entry)) (now (journal .entry)) (now (rows .entry))) Passed ⌝ }
+    ensures { λ r. ⌜ leaving r (now (polygons .exit)) (now (sequences .exit)) (now (journal .exit)) (now (rows .exit)) ≡ sweepsOn (lent (now (edges .entry)) (now (polygons .entry)) (now (sequences .entry)) (now (journal .entry)) (now (rows .entry))) ⌝ }
 {
     let n = edges.len() / Edge::NUMBERS;
     let used = JOURNAL_NUMBERS * n;

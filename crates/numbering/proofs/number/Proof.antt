@@ -1,10 +1,11 @@
 -- `number` meets its contract: the answer sheet by the checks, the rest by the theorems of Promising.
-use mathlib.Core.Path.{sym, ap, _∙_}
+use mathlib.Core.Path.{sym, _∙_}
 use denote.Ref.{now}
 use Rattle.sheet.specs.Edges.{edgesIn}
 use Rattle.checks.proofs.Passed.{passed}
-use Rattle.numbering.specs.Outcome.{lent, callOf, outcome, afterChecks}
+use Rattle.numbering.specs.Outcome.{lent, callOf}
 use Rattle.numbering.proofs.Leaving.{when-refused}
+use Rattle.numbering.proofs.Running.{runs}
 use Rattle.numbering.proofs.Promising.{promised}
 use borrow.Author.Needs.{needs}
 use Rattle.numbering.proofs.number.Statement.{statement}
@@ -24,11 +25,11 @@ returns c =
     promised l _ (when-refused l _ (sym (c .before .before .before .check .ensures) ∙ c .before .checked .given .1))
 
 returns-2 : tie.Need-returns-2
-unfolding outcome
 returns-2 c =
     let a = c .before .before .before .before .before .before .before .before .before .before .before .before .before .before .before .before .args in
     let l = lent (now (a .edges)) (now (a .polygons)) (now (a .sequences)) (now (a .journal)) (now (a .rows)) in
-    promised l _ (c .before .before .before .before .before .before .number-checked .ensures ∙ ap (afterChecks l) (sym (sym (c .before .before .before .before .before .before .before .before .before .before .before .before .before .check .ensures) ∙ c .before .before .before .before .before .before .before .before .before .before .before .enum-told .given .1)))
+    let ok = sym (c .before .before .before .before .before .before .before .before .before .before .before .before .before .check .ensures) ∙ c .before .before .before .before .before .before .before .before .before .before .before .enum-told .given .1 in
+    promised l _ (c .before .before .before .before .before .before .number-checked .ensures ∙ runs l ok)
 
 pub number-spec : {M : Type 1} → statement M
 number-spec =

@@ -4,7 +4,8 @@ use native.Mathlib.Omega.{arith}
 use denote.Ref.{now}
 use borrow.Author.Tests.{not-true, not-false}
 use Rattle.sheet.specs.Edges.{edgesIn}
-use Rattle.numbering.specs.Outcome.{lent, sweptUp}
+use Rattle.numbering.specs.Outcome.{lent}
+use Rattle.numbering.specs.OnSlices.{sweptUp}
 use Rattle.numbering.proofs.Leaving as leaving
 use Rattle.numbering.proofs.Leaving.{is-done-end}
 use borrow.Author.Needs.{needs}
