@@ -1,2 +1,3 @@
--- What the statements of this crate settle.
+-- What the statements of this crate settle, and what follows for those who call both functions.
+pub mod Accepting
 pub mod OneOutcome

@@ -2,6 +2,7 @@
 use Prim.Native.Nat.{ℕ}
 use mathlib.Core.Path.{_≡_}
 use mathlib.Core.List.{List}
+use mathlib.Core.Logic.{_↔_}
 use lib.IntN.{ℤ}
 use lib.ListN.{length}
 use Rattle.sheet.specs.declared.Answer.{Answer}
@@ -9,7 +10,7 @@ use Rattle.sheet.specs.declared.Answer.the-variants as answer
 use Rattle.sheet.specs.declared.TurnAnswer.{TurnAnswer}
 use Rattle.sheet.specs.declared.TurnAnswer.the-variants as turn
 use Rattle.sheet.specs.Answers.{numberOf, placeOf}
-use Rattle.sheet.specs.TurnList.{turnNumberOf, turnPlaceOf, turned, TurnsAfter}
+use Rattle.sheet.specs.TurnList.{turnNumberOf, turnPlaceOf, turned, GoodLists, TurnsAfter}
 use Rattle.numbering.specs.Outcome.{Lent, Left}
 use Rattle.numbering.specs.Promised.{Promised}
 use Rattle.desk.specs.declared.Sheet.{Sheet}
@@ -46,4 +47,6 @@ pub record Exports (l : Lent) (y : Exported) : Type 0 where
 -- the turn list as it is left, and the answer by its numbers
 pub record ReadTurns (polygons sequences before after : List ℕ) (r : Turned) : Type 0 where
   pub answer : r ≡ turnedFrom (turned polygons sequences (length before))
+  -- 01: refusal 0 is given exactly to the numberings without gap or repeat, with their number of polygons
+  pub exactly : (n : ℕ) → ((r .refusal ≡ 0) × (r .polygons ≡ n)) ↔ GoodLists polygons sequences (length before) n
   pub turns : TurnsAfter polygons sequences (turned polygons sequences (length before)) before after

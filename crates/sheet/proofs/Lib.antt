@@ -8,6 +8,7 @@ pub mod Checked
 pub mod Leads
 pub mod Outlines
 pub mod OneNumbering
+pub mod ExactlyAccepted
 pub mod Trying
 pub mod RowsEnough
 pub mod Drawn

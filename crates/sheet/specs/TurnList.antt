@@ -1,9 +1,9 @@
 -- The turn list: refusals 11 to 14 in their order, and what an accepted one holds (01, the last paragraph of "The answer sheet").
-use Prim.Native.Nat.{ℕ, _+_, _<_}
+use Prim.Native.Nat.{ℕ, _+_, _≤_, _<_}
 use mathlib.Core.Path.{_≡_}
 use mathlib.Core.Bool.{Bool, true, false, not, _&&_, _||_}
 use mathlib.Core.List.{List}
-use mathlib.Core.Logic.{_⊎_}
+use mathlib.Core.Logic.{_⊎_, _↔_}
 use lib.Dec.{eqb, ltb}
 use lib.ListN.{length, getD}
 use Rattle.laws.specs.Counting.{some-below, first, largest}
@@ -66,6 +66,25 @@ turned polygons sequences turns =
     (refuseFirstTurn (numberLists polygons sequences) pairRepeated PairRepeated
     (refuseFirstTurn (numberLists polygons sequences) gap Gap
     (answer.Accepted (largest (λ e. getD polygons e 0) (length polygons))))))
+
+-- What is accepted, in 01's words. The polygon numbers run from 1 without a gap, and there are so many of them; in each polygon the sequence numbers
+-- run from 0 without gap or repeat: no pair comes twice, and every number below an edge's is there.
+pub record GoodNumbering (v : NumberLists) (polygons : ℕ) : Type 0 where
+  pub from-one : (e : ℕ) → e < v .edges → (1 ≤ v .polygon e) × (v .polygon e ≤ polygons)
+  pub no-gap : (k : ℕ) → 1 ≤ k → k ≤ polygons → (e : ℕ) × (e < v .edges) × (v .polygon e ≡ k)
+  pub no-repeat : (e f : ℕ) → e < v .edges → f < v .edges → v .polygon e ≡ v .polygon f → v .sequence e ≡ v .sequence f → e ≡ f
+  pub from-zero : (e i : ℕ) → e < v .edges → i < v .sequence e → (f : ℕ) × (f < v .edges) × (v .polygon f ≡ v .polygon e) × (v .sequence f ≡ i)
+
+-- .. in three lists of one length, at most 4,096
+pub record GoodLists (polygons sequences : List ℕ) (turns n : ℕ) : Type 0 where
+  pub sequences-too : length sequences ≡ length polygons
+  pub turns-too : turns ≡ length polygons
+  pub few : length polygons ≤ 4096
+  pub numbering : GoodNumbering (numberLists polygons sequences) n
+
+-- 01: an answer accepts exactly these, each with its number of polygons. `turned` does (proofs/ExactlyAccepted.antt).
+abbrev pub AcceptsExactly : List ℕ → List ℕ → ℕ → TurnAnswer → Type 0
+AcceptsExactly polygons sequences turns r = (n : ℕ) → (r ≡ answer.Accepted n) ↔ GoodLists polygons sequences turns n
 
 -- one edge comes before another: by polygon, and in a polygon by sequence
 abbrev pub Before : NumberLists → ℕ → ℕ → Type 0

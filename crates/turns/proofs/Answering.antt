@@ -1,5 +1,5 @@
 -- The ways out, one law for each: a refusal where the first edge with its fault is found, and what follows where there is none.
-use mathlib.Core.Path.{_≡_, sym, ap, _∙_}
+use mathlib.Core.Path.{_≡_, sym, ap, _∙_, subst}
 use mathlib.Core.Bool.{Bool, true, false}
 use mathlib.Core.List.{List}
 use Prim.Native.Nat.{ℕ, _≤_, _<_}
@@ -12,7 +12,8 @@ use Rattle.sheet.specs.declared.TurnRefusal.{TurnRefusal}
 use Rattle.sheet.specs.declared.TurnRefusal.the-variants.{LengthsDiffer, NoPolygon, PairRepeated, Gap}
 use Rattle.sheet.specs.declared.TurnAnswer.{TurnAnswer}
 use Rattle.sheet.specs.declared.TurnAnswer.the-variants.{Accepted, Refused}
-use Rattle.sheet.specs.TurnList.{NumberLists, numberLists, noPolygon, pairRepeated, gap, refuseFirstTurn, lengthsDiffer, turned}
+use Rattle.sheet.specs.TurnList.{NumberLists, numberLists, noPolygon, pairRepeated, gap, refuseFirstTurn, lengthsDiffer, turned, AcceptsExactly}
+use Rattle.sheet.proofs.ExactlyAccepted.{accepts-exactly}
 use Rattle.turns.specs.Keys.{Sizes}
 use Rattle.turns.specs.Answers.{withoutPolygon, numbersTurned}
 
@@ -77,3 +78,7 @@ module _ (polygons sequences : List ℕ) {none : ℕ} (without : none ≡ first 
           ∙ passes (numberLists polygons sequences) gap Gap _ gaps l14
           ∙ passes (numberLists polygons sequences) pairRepeated PairRepeated _ repeated l13
           ∙ passes (numberLists polygons sequences) noPolygon NoPolygon _ without l12
+
+-- whichever it is, it accepts exactly the good numberings
+pub answers-exactly : (polygons sequences : List ℕ) (turns : ℕ) {r : TurnAnswer} → r ≡ turned polygons sequences turns → AcceptsExactly polygons sequences turns r
+answers-exactly polygons sequences turns told = subst (AcceptsExactly polygons sequences turns) (sym told) (accepts-exactly polygons sequences turns)

@@ -7,7 +7,7 @@ ghost use mathlib.Core.Path.{_≡_};
 ghost use Prim.Native.Nat.{ℕ, _<_, _≤_};
 ghost use lib.ListN.{length, getD};
 ghost use Rattle.laws.specs.Counting.{first};
-ghost use Rattle.sheet.specs.TurnList.{numberLists, lengthsDiffer, pairRepeated, gap, turned, TurnsAfter};
+ghost use Rattle.sheet.specs.TurnList.{numberLists, lengthsDiffer, pairRepeated, gap, turned, AcceptsExactly, TurnsAfter};
 ghost use Rattle.turns.specs.Keys.{keyOf, keyAt, Sizes, Rising, Keyed, placeFrom, standsBetween};
 ghost use Rattle.turns.specs.Answers.{withoutPolygon, sequenceMissing, polygonMissing, lastPolygon, numbersTurned};
 ghost use Rattle.turns.specs.Order.{Blank, Ordered};
@@ -24,6 +24,7 @@ const KEYS: u64 = 4_294_967_296;
 // Reads the turn list of a numbering. A refusal leaves the turns as they are.
 pub fn turn_list(polygons: &[u32], sequences: &[u32], turns: &mut [u32]) -> TurnAnswer
     ensures answer { λ r. ⌜ r ≡ turned (now (polygons .entry)) (now (sequences .entry)) (length (now (turns .entry))) ⌝ }
+    ensures exactly { λ r. ⌜ AcceptsExactly (now (polygons .entry)) (now (sequences .entry)) (length (now (turns .entry))) r ⌝ }
     ensures turns { λ r. ⌜ TurnsAfter (now (polygons .entry)) (now (sequences .entry)) r (now (turns .entry)) (now (turns .exit)) ⌝ }
 {
     if lengths_differ(polygons.len(), sequences.len(), turns.len()) {

@@ -1,0 +1,34 @@
+-- An answer by its numbers is accepted just where the answer is: the refusals have the numbers 11 to 14, and only what is accepted has 0.
+use mathlib.Core.Path.{_≡_, sym, ap, _∙_}
+use mathlib.Core.List.{List}
+use mathlib.Core.Logic.{_↔_}
+use Prim.Native.Nat.{ℕ}
+use native.Mathlib.Omega.{arith}
+use Rattle.sheet.specs.declared.TurnRefusal.{TurnRefusal}
+use Rattle.sheet.specs.declared.TurnRefusal.the-variants.{LengthsDiffer, NoPolygon, PairRepeated, Gap}
+use Rattle.sheet.specs.declared.TurnAnswer.{TurnAnswer}
+use Rattle.sheet.specs.declared.TurnAnswer.the-variants.{Accepted, Refused}
+use Rattle.sheet.specs.TurnList.{turnNumberOf, GoodLists, AcceptsExactly}
+use Rattle.desk.specs.declared.Turned.{Turned}
+use Rattle.desk.specs.Exported.{turnedFrom}
+
+refused-not-zero : (r : TurnRefusal) → turnNumberOf r ≡ 0 → ⊥
+refused-not-zero LengthsDiffer q = omega arith
+refused-not-zero (NoPolygon e) q = omega arith
+refused-not-zero (PairRepeated e) q = omega arith
+refused-not-zero (Gap e) q = omega arith
+
+-- refusal 0 with n polygons
+zero-accepted : (a : TurnAnswer) (n : ℕ) → turnedFrom a .refusal ≡ 0 → turnedFrom a .polygons ≡ n → a ≡ Accepted n
+zero-accepted (Accepted m) n z q = ap Accepted q
+zero-accepted (Refused r) n z q = absurd (refused-not-zero r z)
+
+pub by-numbers-exactly : {polygons sequences : List ℕ} {turns : ℕ} {a : TurnAnswer} {r : Turned} →
+    AcceptsExactly polygons sequences turns a →
+    r ≡ turnedFrom a →
+    (n : ℕ) →
+    ((r .refusal ≡ 0) × (r .polygons ≡ n)) ↔ GoodLists polygons sequences turns n
+by-numbers-exactly {a = a} exactly told n = (
+  λ h. exactly n .0 (zero-accepted a n (ap (λ (x : Turned). x .refusal) (sym told) ∙ h .0) (ap (λ (x : Turned). x .polygons) (sym told) ∙ h .1)),
+  λ g. let q = told ∙ ap turnedFrom (exactly n .1 g) in (ap (λ (x : Turned). x .refusal) q, ap (λ (x : Turned). x .polygons) q),
+)
