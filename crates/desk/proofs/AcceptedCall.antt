@@ -1,35 +1,20 @@
 -- What an accepted call of `outline_number` has: its list passed the nine checks, the two lists are its numbering, and they are one number an edge long.
--- Refusals have the numbers 1 to 10, so that refusal 0 is an accepted answer, and then the promise of the numbering speaks. `accepted-passed` is the only
--- place here that looks into the outcome of the numbering: a call whose checks refuse is not accepted.
+-- Refusals have the numbers 1 to 10, so that refusal 0 is an accepted answer, and then the promise of the numbering speaks.
 use mathlib.Core.Path.{_≡_, refl, sym, ap, _∙_, subst}
 use Prim.Native.Nat.{ℕ}
 use native.Mathlib.Omega.{arith}
 use lib.ListN.{length, getD}
 use Rattle.sheet.specs.declared.Answer.{Answer}
 use Rattle.sheet.specs.declared.Answer.the-variants as answer
-use Rattle.sheet.specs.declared.Check.{Check}
-use Rattle.sheet.specs.declared.Check.the-variants as check
 use Rattle.sheet.specs.declared.Refusal.{Refusal}
 use Rattle.sheet.specs.declared.Refusal.the-variants.{NotWhole, TooMany, ListsDiffer, JournalShort, PastRange, EqualEnds, TopFalls, Repeated, Uneven, NoRow}
 use Rattle.sheet.specs.Edges.{edgesIn, drawingOf}
 use Rattle.sheet.specs.Numbering.{Numbering}
-use Rattle.sheet.specs.Answers.{numberOf, checked}
+use Rattle.sheet.specs.Answers.{numberOf}
 use Rattle.checks.proofs.Passed.{AllPassed, passed}
-use Rattle.numbering.specs.Outcome.{Lent, Left, callOf, afterChecks, outcome}
-use Rattle.numbering.specs.Promised.{Promised}
+use Rattle.numbering.specs.Outcome.{Lent, callOf}
+use Rattle.numbering.proofs.Promising as numbering
 use Rattle.desk.specs.Exported.{sheetFrom, Exported, Exports}
-
--- THE LINK to the numbering: of its insides only this goes by `outcome-is`; prove it anew where `outcome` changes
-accepted-passed : {l : Lent} {x : Left} {polygons peak records : ℕ} → Promised l x → x .answer ≡ answer.Accepted polygons peak records → checked (callOf l) ≡ check.Passed
-accepted-passed {l} {x} {polygons} {peak} {records} P q = by (checked (callOf l)) refl
-  where
-    by : (c : Check) → checked (callOf l) ≡ c → checked (callOf l) ≡ check.Passed
-    by check.Passed e = e
-    by (check.Refused r) e =
-        let f : x ≡ afterChecks l (check.Refused r) = P .outcome-is ∙ (unfold outcome in ap (afterChecks l) e) in
-        let g : answer.Refused r ≡ answer.Accepted polygons peak records = sym (ap (λ (y : Left). y .answer) f) ∙ q in
-        let z : _≡_ {A = ℕ} 0 1 = cc g in
-        absurd (omega arith)
 
 refused-not-zero : (r : Refusal) → numberOf r ≡ 0 → ⊥
 refused-not-zero NotWhole q = omega arith
@@ -56,12 +41,11 @@ pub record AcceptedCall (l : Lent) (y : Exported) : Type 0 where
 
 pub accepted-call : (l : Lent) (y : Exported) → Exports l y → y .sheet .refusal ≡ 0 → AcceptedCall l y
 accepted-call l y E q =
-    let x = E .inner in
-    let w = zero-accepted (x .answer) (ap (λ (u : Exported). u .sheet .refusal) (sym (E .same)) ∙ q) in
-    let all = passed (callOf l) (accepted-passed (E .promised) (w .2)) in
+    let w = zero-accepted (E .inner .answer) (ap (λ (u : Exported). u .sheet .refusal) (sym (E .same)) ∙ q) in
+    let A = numbering.accepted-call (E .promised .outcome-is) (w .2) in
     record {
-      all-passed = all;
+      all-passed = passed (callOf l) (A .passed-all);
       numbering = subst (λ (u : Exported). Numbering (drawingOf (l .list)) (λ e. getD (u .polygons) e 0) (λ e. getD (u .sequences) e 0) (u .sheet .polygons)) (sym (E .same)) (E .promised .numbered _ _ _ (w .2));
-      polygons-long = E .polygons-long ∙ all .polygons;
-      sequences-long = E .sequences-long ∙ all .sequences;
+      polygons-long = ap (λ (u : Exported). length (u .polygons)) (E .same) ∙ A .polygons-long;
+      sequences-long = ap (λ (u : Exported). length (u .sequences)) (E .same) ∙ A .sequences-long;
     }

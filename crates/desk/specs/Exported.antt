@@ -43,9 +43,6 @@ pub record Exports (l : Lent) (y : Exported) : Type 0 where
   pub inner : Left
   pub promised : Promised l inner
   pub same : y ≡ byNumbers inner
-  -- the number lists are as long as they were lent
-  pub polygons-long : length (y .polygons) ≡ length (l .polygons)
-  pub sequences-long : length (y .sequences) ≡ length (l .sequences)
 
 -- the turn list as it is left, and the answer by its numbers
 pub record ReadTurns (polygons sequences before after : List ℕ) (r : Turned) : Type 0 where

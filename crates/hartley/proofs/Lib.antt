@@ -43,5 +43,4 @@ pub mod Numbers
 pub mod Holding
 pub mod Enough
 pub mod Turns
-pub mod TurnsAccepted
 pub mod Results

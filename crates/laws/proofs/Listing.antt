@@ -26,7 +26,7 @@ module _ {A : Type 0} where
       part i m = let e : 1 * i ≡ i = omega arith in ap (λ k. take 1 (drop k s)) e ∙ ap (take 1) (drop-cons s i d (omega arith)) ∙ ap (λ v. v ∷ []) (h i m)
 
   -- .. and its values are read back
-  length-listOf : (f : ℕ → A) (n : ℕ) → length (listOf f n) ≡ n
+  pub length-listOf : (f : ℕ → A) (n : ℕ) → length (listOf f n) ≡ n
   unfolding listed
   length-listOf f zero = refl
   length-listOf f (suc n) = length-append (listOf f n) (f n ∷ []) ∙ omega (arith, length-listOf f n)

@@ -11,7 +11,7 @@ use lib.IntN.{ℤ}
 use lib.ListN.{length, getD}
 use Rattle.laws.proofs.Deciding.{not-both}
 use Rattle.laws.specs.Listing.{listed, listOf}
-use Rattle.laws.proofs.Listing.{getD-listOf}
+use Rattle.laws.proofs.Listing.{length-listOf, getD-listOf}
 use Rattle.sheet.specs.declared.Answer.{Answer}
 use Rattle.sheet.specs.declared.Answer.the-variants.{Accepted, Refused}
 use Rattle.sheet.specs.declared.Check.{Check}
@@ -70,6 +70,17 @@ accepted-by l p k m q = by (way l)
     by (done ok d e) =
         let f : Accepted (down l .polygons) (up l .state .peak) (up l .state .records) ≡ Accepted p k m = sym (ap (λ x. x .answer) e) ∙ q in
         record { ok = ok; is-done = d; outcome-is = e; polygons-are = cc; peak-is = cc; records-are = cc }
+
+-- .. its list passed the checks, and its two lists are one number an edge long
+pub record AcceptedCall (l : Lent) (x : Left) : Type 0 where
+  pub passed-all : checked (callOf l) ≡ check.Passed
+  pub polygons-long : length (x .polygons) ≡ edgesIn (l .list)
+  pub sequences-long : length (x .sequences) ≡ edgesIn (l .list)
+
+pub accepted-call : {l : Lent} {x : Left} {p k m : ℕ} → x ≡ outcome l → x .answer ≡ Accepted p k m → AcceptedCall l x
+accepted-call {l} {x} {p} {k} {m} e q =
+    let A = accepted-by l p k m (sym (ap (λ y. y .answer) e) ∙ q) in
+    rw (e, A .outcome-is) (record { passed-all = A .ok; polygons-long = length-listOf (λ i. down l .answers i .polygon) (edgesIn (l .list)); sequences-long = length-listOf (λ i. naturalPart (down l .answers i .sequence)) (edgesIn (l .list)) })
 
 module _ (l : Lent) where
   numbered : (polygons peak records : ℕ) → outcome l .answer ≡ Accepted polygons peak records → Numbering (drawingOf (l .list)) (λ e. getD (outcome l .polygons) e 0) (λ e. getD (outcome l .sequences) e 0) polygons

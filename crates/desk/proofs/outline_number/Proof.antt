@@ -11,8 +11,6 @@ returns c =
       inner = _;
       promised = n .ensures;
       same = λ i. exported (c .sheet-of .ensures i) (n .last .1 .0) (n .last .1 .1 .0) (n .last .1 .1 .1 .0) (n .last .1 .1 .1 .1 .0);
-      polygons-long = search needs;
-      sequences-long = search needs;
     }
 
 pub outline-number-spec : {M : Type 1} → statement M
