@@ -22,7 +22,7 @@ use Rattle.sheet.specs.Passing.{passing, Most}
 use Rattle.sheet.specs.Kinds as kinds
 use Rattle.sheet.specs.Answers as answers
 use Rattle.sheet.specs.Answers.{numberOf, placeOf}
-use Rattle.sheet.proofs.Drawn.{triangle, twoEdges, square, twoPeaks, touching}
+use Rattle.sheet.proofs.Drawn.{triangle, twoEdges, square, twoPeaks, touching, threePairs}
 use Rattle.steps.specs.SweepUp as up
 use Rattle.steps.specs.SweepDown as down
 use Rattle.steps.specs.Plain as plain
@@ -31,9 +31,12 @@ use Rattle.numbering.specs.Outcome as outcomes
 use Rattle.numbering.specs.Outcome.{Lent, Left, outcome}
 use Rattle.numbering.specs.Promised.{Promised}
 
--- a sheet with the rows lent, and what 01 says of it: refusal and place, or 0, 0; polygons, peak, records; the two lists
+-- a sheet with the lengths of the slices lent, and what 01 says of it: refusal and place, or 0, 0; polygons, peak, records; the two lists
 record Expected : Type 0 where
   list : List ℕ
+  polygons-lent : ℕ
+  sequences-lent : ℕ
+  journal-lent : ℕ
   rows : ℕ
   refusal : ℕ
   place : ℕ
@@ -47,9 +50,9 @@ abbrev lentFor : Expected → Lent
 lentFor w =
     record {
       list = map pos (w .list);
-      polygons = replicate (length (w .list) / 4) 77;
-      sequences = replicate (length (w .list) / 4) 77;
-      journal = replicate (2 * length (w .list)) (pos 77);
+      polygons = replicate (w .polygons-lent) 77;
+      sequences = replicate (w .sequences-lent) 77;
+      journal = replicate (w .journal-lent) (pos 77);
       rows = replicate (8 * w .rows) (pos 77);
     }
 
@@ -73,13 +76,44 @@ allRight : List Expected → Bool
 allRight [] = true
 allRight (w ∷ rest) = right w && allRight rest
 
+-- lists of one number an edge, a journal of 8 numbers an edge
 accepted : List ℕ → ℕ → ℕ → ℕ → ℕ → List ℕ → List ℕ → Expected
 accepted list rows polygons peak records polygon sequence =
-    record { list = list; rows = rows; refusal = 0; place = 0; polygons = polygons; peak = peak; records = records; polygon = polygon; sequence = sequence }
+    record {
+      list = list;
+      polygons-lent = length list / 4;
+      sequences-lent = length list / 4;
+      journal-lent = 2 * length list;
+      rows = rows;
+      refusal = 0;
+      place = 0;
+      polygons = polygons;
+      peak = peak;
+      records = records;
+      polygon = polygon;
+      sequence = sequence;
+    }
 
-refused : List ℕ → ℕ → ℕ → ℕ → List ℕ → Expected
-refused list rows number place untouched =
-    record { list = list; rows = rows; refusal = number; place = place; polygons = 0; peak = 0; records = 0; polygon = untouched; sequence = untouched }
+-- slices of these lengths, the two lists untouched
+refusedWith : List ℕ → ℕ → ℕ → ℕ → ℕ → ℕ → ℕ → Expected
+refusedWith list polygons-lent sequences-lent journal-lent rows number place =
+    record {
+      list = list;
+      polygons-lent = polygons-lent;
+      sequences-lent = sequences-lent;
+      journal-lent = journal-lent;
+      rows = rows;
+      refusal = number;
+      place = place;
+      polygons = 0;
+      peak = 0;
+      records = 0;
+      polygon = replicate polygons-lent 77;
+      sequence = replicate sequences-lent 77;
+    }
+
+refused : List ℕ → ℕ → ℕ → ℕ → Expected
+refused list rows number place = refusedWith list (length list / 4) (length list / 4) (2 * length list) rows number place
 
 empty : Expected
 empty = accepted [] 0 0 0 0 [] []
@@ -91,6 +125,10 @@ two-touching : Expected
 two-touching =
     accepted touching 4 2 4 11 (2 ∷ 2 ∷ 1 ∷ 2 ∷ 2 ∷ 1 ∷ 1 ∷ []) (1 ∷ 2 ∷ 1 ∷ 3 ∷ 0 ∷ 2 ∷ 0 ∷ [])
 
+three-pairs : Expected
+three-pairs = accepted threePairs 1 3 1 9 (3 ∷ 3 ∷ 2 ∷ 2 ∷ 1 ∷ 1 ∷ []) (1 ∷ 0 ∷ 1 ∷ 0 ∷ 1 ∷ 0 ∷ [])
+
+-- 01's marked sheets, and one for each refusal
 sheets : List Expected
 sheets =
     empty
@@ -98,11 +136,19 @@ sheets =
     ∷ accepted twoEdges 1 1 1 3 (1 ∷ 1 ∷ []) (1 ∷ 0 ∷ [])
     ∷ accepted square 1 1 1 5 (1 ∷ 1 ∷ 1 ∷ 1 ∷ []) (2 ∷ 1 ∷ 3 ∷ 0 ∷ [])
     ∷ accepted twoPeaks 3 1 3 7 (1 ∷ 1 ∷ 1 ∷ 1 ∷ []) (1 ∷ 2 ∷ 3 ∷ 0 ∷ [])
-    ∷ refused twoPeaks 2 10 3 (77 ∷ 77 ∷ 77 ∷ 77 ∷ [])
+    ∷ refused twoPeaks 2 10 3
     ∷ two-touching
-    ∷ refused (0 ∷ 0 ∷ 4 ∷ 2 ∷ triangle) 1 8 1 (77 ∷ 77 ∷ 77 ∷ 77 ∷ [])
-    ∷ refused (0 ∷ 0 ∷ 4 ∷ 2 ∷ 4 ∷ 2 ∷ 1 ∷ 5 ∷ []) 1 9 0 (77 ∷ 77 ∷ [])
-    ∷ refused (5 ∷ 5 ∷ 5 ∷ 5 ∷ []) 1 6 0 (77 ∷ [])
+    ∷ three-pairs
+    ∷ refused (0 ∷ 0 ∷ 4 ∷ []) 1 1 0
+    ∷ refusedWith (replicate (4 * 4097) 0) 0 0 0 0 2 0
+    ∷ refusedWith triangle 2 3 24 1 3 0
+    ∷ refusedWith triangle 3 4 24 1 3 0
+    ∷ refusedWith triangle 3 3 23 1 4 0
+    ∷ refused (0 ∷ 0 ∷ 4 ∷ 2 ∷ 4 ∷ 2 ∷ 1 ∷ 1000001 ∷ []) 1 5 1
+    ∷ refused (5 ∷ 5 ∷ 5 ∷ 5 ∷ []) 1 6 0
+    ∷ refused (4 ∷ 2 ∷ 1 ∷ 5 ∷ 0 ∷ 0 ∷ 4 ∷ 2 ∷ 1 ∷ 5 ∷ 0 ∷ 0 ∷ []) 1 7 1
+    ∷ refused (0 ∷ 0 ∷ 4 ∷ 2 ∷ triangle) 1 8 1
+    ∷ refused (0 ∷ 0 ∷ 4 ∷ 2 ∷ 4 ∷ 2 ∷ 1 ∷ 5 ∷ []) 1 9 0
     ∷ []
 
 -- the top of the triangle's first edge
@@ -117,6 +163,9 @@ record AllWorked : Type 0 where
   lists-of-triangle : outcome (lentFor one-triangle) .polygons ≡ 1 ∷ 1 ∷ 1 ∷ []
   untouched-triangle : lentFor one-triangle .polygons ≡ 77 ∷ 77 ∷ 77 ∷ []
   lists-of-touching : outcome (lentFor two-touching) .polygons ≡ 2 ∷ 2 ∷ 1 ∷ 2 ∷ 2 ∷ 1 ∷ 1 ∷ []
+  sequences-of-touching : outcome (lentFor two-touching) .sequences ≡ 1 ∷ 2 ∷ 1 ∷ 3 ∷ 0 ∷ 2 ∷ 0 ∷ []
+  lists-of-pairs : outcome (lentFor three-pairs) .polygons ≡ 3 ∷ 3 ∷ 2 ∷ 2 ∷ 1 ∷ 1 ∷ []
+  of-pairs : outcome (lentFor three-pairs) .answer ≡ Accepted 3 1 9
   of-touching : outcome (lentFor two-touching) .answer ≡ Accepted 2 4 11
   passing-triangle : passing (drawingOf (lentFor one-triangle .list)) trianglePlace ≡ 2
 
@@ -126,6 +175,8 @@ unfolding
     right
     accepted
     refused
+    refusedWith
+    three-pairs
     sheets
     empty
     one-triangle
@@ -203,6 +254,9 @@ all-worked =
       lists-of-triangle = refl;
       untouched-triangle = refl;
       lists-of-touching = refl;
+      sequences-of-touching = refl;
+      lists-of-pairs = refl;
+      of-pairs = refl;
       of-touching = refl;
       passing-triangle = refl;
     }
@@ -231,11 +285,30 @@ module _ (engine : Lent → Left) (keeps : (l : Lent) → Promised l (engine l))
       let z : _≡_ {A = ℕ} 77 1 = ap (λ l. getD l 0 0) e in
       omega arith
 
-  -- one that numbers the first outline and gives every other edge its number too
-  fakes-the-rest : ((l : Lent) → getD (engine l .polygons) 0 0 ≡ getD (engine l .polygons) 2 0) → ⊥
-  fakes-the-rest f =
-      let e : engine (lentFor two-touching) .polygons ≡ 2 ∷ 2 ∷ 1 ∷ 2 ∷ 2 ∷ 1 ∷ 1 ∷ [] = ap (λ x. x .polygons) (keeps (lentFor two-touching) .outcome-is) ∙ all-worked .lists-of-touching in
-      let z : _≡_ {A = ℕ} 2 1 = sym (ap (λ l. getD l 0 0) e) ∙ f (lentFor two-touching) ∙ ap (λ l. getD l 2 0) e in
+  -- one that is right on the first outline and gives all other edges of a sheet one polygon number, or all other edges one sequence number
+  abbrev Fakes : (Lent → Left → ℕ → ℕ) → ℕ → Type 0
+  Fakes given c = (l : Lent) (p k m : ℕ) → engine l .answer ≡ Accepted p k m → (e : ℕ) → (getD (outcome l .polygons) e 0 ≡ 1 → ⊥) → given l (engine l) e ≡ c
+
+  fakes-the-polygons : (c : ℕ) → Fakes (λ l x e. getD (x .polygons) e 0) c → ⊥
+  fakes-the-polygons c f =
+      let l = lentFor three-pairs in
+      let k = keeps l .outcome-is in
+      let faked = f l 3 1 9 (ap (λ x. x .answer) k ∙ all-worked .of-pairs) in
+      let right : (e : ℕ) → getD (engine l .polygons) e 0 ≡ getD (3 ∷ 3 ∷ 2 ∷ 2 ∷ 1 ∷ 1 ∷ []) e 0 = λ e. ap (λ x. getD (x .polygons) e 0) k ∙ ap (λ s. getD s e 0) (all-worked .lists-of-pairs) in
+      let other : (e : ℕ) → getD (outcome l .polygons) e 0 ≡ getD (3 ∷ 3 ∷ 2 ∷ 2 ∷ 1 ∷ 1 ∷ []) e 0 = λ e. ap (λ s. getD s e 0) (all-worked .lists-of-pairs) in
+      let a : 3 ≡ c = sym (right 0) ∙ faked 0 (λ h. omega (arith, h, other 0)) in
+      let b : 2 ≡ c = sym (right 2) ∙ faked 2 (λ h. omega (arith, h, other 2)) in
+      omega arith
+
+  fakes-the-sequences : (c : ℕ) → Fakes (λ l x e. getD (x .sequences) e 0) c → ⊥
+  fakes-the-sequences c f =
+      let l = lentFor two-touching in
+      let k = keeps l .outcome-is in
+      let faked = f l 2 4 11 (ap (λ x. x .answer) k ∙ all-worked .of-touching) in
+      let right : (e : ℕ) → getD (engine l .sequences) e 0 ≡ getD (1 ∷ 2 ∷ 1 ∷ 3 ∷ 0 ∷ 2 ∷ 0 ∷ []) e 0 = λ e. ap (λ x. getD (x .sequences) e 0) k ∙ ap (λ s. getD s e 0) (all-worked .sequences-of-touching) in
+      let other : (e : ℕ) → getD (outcome l .polygons) e 0 ≡ getD (2 ∷ 2 ∷ 1 ∷ 2 ∷ 2 ∷ 1 ∷ 1 ∷ []) e 0 = λ e. ap (λ s. getD s e 0) (all-worked .lists-of-touching) in
+      let a : 1 ≡ c = sym (right 0) ∙ faked 0 (λ h. omega (arith, h, other 0)) in
+      let b : 2 ≡ c = sym (right 1) ∙ faked 1 (λ h. omega (arith, h, other 1)) in
       omega arith
 
   -- one that has the same peak for all it accepts: 0, or any other

@@ -20,3 +20,7 @@ twoPeaks = 3 ∷ 2 ∷ 1 ∷ 6 ∷ 1 ∷ 6 ∷ 3 ∷ 0 ∷ 3 ∷ 0 ∷ 6 ∷ 8 �
 -- two outlines that meet in (1,6)
 abbrev pub touching : List ℕ
 touching = 3 ∷ 2 ∷ 1 ∷ 6 ∷ 1 ∷ 6 ∷ 3 ∷ 0 ∷ 1 ∷ 6 ∷ 2 ∷ 7 ∷ 3 ∷ 0 ∷ 6 ∷ 8 ∷ 6 ∷ 8 ∷ 3 ∷ 2 ∷ 2 ∷ 7 ∷ 0 ∷ 9 ∷ 0 ∷ 9 ∷ 1 ∷ 6 ∷ []
+
+-- three outlines of two edges, each above the one before
+abbrev pub threePairs : List ℕ
+threePairs = 0 ∷ 0 ∷ 1 ∷ 1 ∷ 1 ∷ 1 ∷ 0 ∷ 0 ∷ 2 ∷ 2 ∷ 3 ∷ 3 ∷ 3 ∷ 3 ∷ 2 ∷ 2 ∷ 4 ∷ 4 ∷ 5 ∷ 5 ∷ 5 ∷ 5 ∷ 4 ∷ 4 ∷ []
