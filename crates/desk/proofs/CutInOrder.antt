@@ -26,7 +26,7 @@ use Rattle.sheet.proofs.Ranks.{rank-inj}
 use Rattle.sheet.proofs.Outlines.{outline-shares, shares-outline}
 use Rattle.sheet.proofs.ExactlyAccepted.{accepts-exactly}
 use Rattle.checks.proofs.Passed.{AllPassed}
-use Rattle.hartley.proofs.Turns.{sequence-below, sequence-met, last-to-first, turns-follow}
+use Rattle.hartley.proofs.results.TurnsFollow.{sequence-below, sequence-met, last-to-first, turns-follow}
 use Rattle.numbering.specs.Outcome.{Lent}
 use Rattle.turns.proofs.OneTurnList.{every-edge, edge-once}
 use Rattle.desk.specs.declared.Turned.{Turned}

@@ -14,7 +14,7 @@ use Rattle.steps.specs.SweepDown.{Pair}
 use Rattle.steps.specs.Plain.{put, plainTables}
 use Rattle.steps.proofs.AlikeDown.{Holding, MatchDown}
 use Rattle.steps.specs.SweepDown.{naturalPart}
-use Rattle.hartley.proofs.Holding.{Fits}
+use Rattle.hartley.proofs.results.NumbersFit.{Fits}
 use Rattle.sweep.specs.Lookup.{Answers, numbersIn, givenIn, answeredIn, tables}
 use Rattle.sweep.proofs.Given.{length-given, given-here, given-elsewhere}
 

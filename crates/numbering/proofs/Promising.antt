@@ -29,7 +29,7 @@ use Rattle.steps.specs.Rows.{recordNumbers}
 use Rattle.steps.specs.SweepDown.{naturalPart}
 use Rattle.steps.specs.Swept.{rowsIn, readDown, LacksRow}
 use Rattle.steps.proofs.Reaching.{SameRun}
-use Rattle.hartley.proofs.Results as results
+use Rattle.hartley.proofs.results.Results as results
 use Rattle.numbering.specs.Outcome.{Lent, Left, callOf, up, down, endingBy, leaves, outcome}
 use Rattle.numbering.specs.Promised.{Promised, SameCall, RowsEnough, withRows}
 use Rattle.numbering.proofs.Leaving.{never-ten}

@@ -30,7 +30,7 @@ use Rattle.steps.proofs.AlikeDown.{MatchDown, AlikeReading, down-alike}
 use Rattle.journal.specs.Layout.{recordSlice, recordsIn}
 use Rattle.sweep.specs.Slices.{room}
 use Rattle.sweep.specs.Lookup.{numbersIn, tables, reading}
-use Rattle.hartley.proofs.Results as results
+use Rattle.hartley.proofs.results.Results as results
 use Rattle.numbering.specs.Outcome.{Lent, Left, callOf, leaving, up, down, endingBy, leaves, outcome}
 use Rattle.numbering.specs.OnSlices as slices
 use Rattle.numbering.specs.OnSlices.{inJournal, wholeJournal, afterSweep, sweepsOn}

@@ -1,0 +1,9 @@
+-- The whole list: how the sweeps end, that they give the numbering, rows that are enough, the exact peak. Results is what other crates cite.
+pub mod ListSwept
+pub mod SweepEnded
+pub mod GivesNumbering
+pub mod NumbersFit
+pub mod RowsEnough
+pub mod PeakExact
+pub mod TurnsFollow
+pub mod Results

@@ -1,0 +1,56 @@
+-- Rows that are always enough. Where no row was free, one row more than are lent would have been in use while some edge was treated (SweepEnded); the rows in
+-- use of a level are at most the edges that pass its top, so at most C, and a level that is in use has an outline of 2 ^ level edges with room for
+-- it, so at most the whole part of log2 L levels are. C times that is not below itself.
+use mathlib.Core.Path.{_≡_, refl, _∙_}
+use mathlib.Core.Logic.{_⊎_, ⊎-elim}
+use Prim.Native.Nat.{ℕ, suc, _*_, _^_, _≤_, _<_}
+use native.Mathlib.Nat.{mul-comm, mul-le-mul-left}
+use native.Mathlib.Omega.{arith}
+use lib.Dec.{eqb}
+use borrow.Author.Tests.{eq-eqb, eqb-true}
+use Rattle.laws.proofs.Deciding.{lt-or-le}
+use Rattle.laws.proofs.Counting.{count-le}
+use Rattle.sheet.specs.Joining.{Follows}
+use Rattle.sheet.specs.Passing.{passing, outlineSize, Enough}
+use Rattle.sheet.proofs.Checked.{joins}
+use Rattle.steps.specs.declared.End.the-variants.{Done, NoFreeRow}
+use Rattle.steps.specs.Rows.{Row, Record}
+use Rattle.hartley.specs.Swept.{swept}
+use Rattle.hartley.proofs.paths.Plan.{height}
+use Rattle.hartley.proofs.seams.LongOutline as weight
+use Rattle.hartley.proofs.bounds.LengthsAndLevels.{room-many, pow-le, level-small}
+use Rattle.hartley.proofs.bounds.RowsOfALevel.{passes}
+use Rattle.hartley.proofs.step.Given.{Setting, plan, laws}
+use Rattle.hartley.proofs.results.ListSwept.{topOf}
+use Rattle.hartley.proofs.results.SweepEnded.{sweep-ends, when-refused}
+
+-- twelve rows an edge are enough whatever the outlines: no level is above 12, and no more edges pass a place than there are
+pub twelve-each : (A : Setting) (t : ℕ → Row ℕ) (j : ℕ → Record) → 12 * A .sheet .edges ≤ A .rows → swept (A .sheet) (A .rows) (A .records) t j .state .end ≡ Done
+twelve-each A t j lent = ⊎-elim (λ d. d) (λ d. absurd (refused d)) (sweep-ends A t j)
+  where
+    refused : swept (A .sheet) (A .rows) (A .records) t j .state .end ≡ NoFreeRow → ⊥
+    refused d =
+        let w = when-refused A t j d in
+        omega (arith, w .2 12 (λ l r. level-small (laws A) (A .few) l r), count-le (passes (plan A) (topOf (plan A) (w .0))) (A .sheet .edges), lent)
+
+module _ (A : Setting) (polygon : ℕ → ℕ) (shared : (e f : ℕ) → Follows (A .sheet) e f → polygon f ≡ polygon e) where
+  -- an outline with room for a level has one polygon number
+  levels-few : (L log : ℕ) → ((k : ℕ) → outlineSize (A .sheet) polygon k ≤ L) → L < 2 ^ suc log → (l : ℕ) → weight.Room (plan A) l → l ≤ log
+  unfolding outlineSize
+  levels-few L log most under l r =
+      let many = room-many (laws A) l r (λ e. eqb (polygon e) (polygon (r .0))) (eq-eqb (polygon (r .0)) (polygon (r .0)) refl) (λ e h t. eq-eqb (polygon (joins (A .checked .sound) .next e)) (polygon (r .0)) (shared e _ (joins (A .checked .sound) .follows e h) ∙ eqb-true (polygon e) (polygon (r .0)) t)) in
+      ⊎-elim (λ h. absurd (omega (arith, many, most (polygon (r .0)), pow-le (suc log) l h))) (λ h. omega arith) (lt-or-le log l)
+
+  module _ (t : ℕ → Row ℕ) (j : ℕ → Record) (c : ℕ) (enough : Enough (A .sheet) polygon c) (lent : c ≤ A .rows) where
+    not-refused : swept (A .sheet) (A .rows) (A .records) t j .state .end ≡ NoFreeRow → ⊥
+    unfolding passing
+    not-refused d =
+        let w = when-refused A t j d in
+        let few = levels-few (enough .L) (enough .log) (enough .longest .bound) (enough .whole-part .under) in
+        let crowd = w .2 (enough .log) few in
+        let pass = enough .most-passing .bound (height (plan A) (topOf (plan A) (w .0))) in
+        omega (arith, crowd, mul-le-mul-left (enough .log) pass, mul-comm (enough .log) (enough .C), enough .rows-are, lent)
+
+    -- demand 3
+    pub enough-rows : swept (A .sheet) (A .rows) (A .records) t j .state .end ≡ Done
+    enough-rows = ⊎-elim (λ d. d) (λ d. absurd (not-refused d)) (sweep-ends A t j)
