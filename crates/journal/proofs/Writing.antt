@@ -13,6 +13,7 @@ use Rattle.steps.specs.Rows.{Chain, inRow, closing, Record}
 use Rattle.steps.specs.SweepDown.{naturalPart}
 use Rattle.journal.specs.Layout.{HasRecord, fitting, chainIn, rowNumber, recordAt, writtenIn}
 use Rattle.laws.proofs.Sets.{getD-sets-other, getD-sets-in}
+use Rattle.steps.specs.Swept.{numbersPerRecord}
 
 -- the chain's row, where there is one, has 31 bits
 abbrev pub ShortChain : Chain → Type 0
@@ -35,12 +36,12 @@ module _ (s : List ℤ) (k : ℕ) (e : Record) where
 
   pub length-written : length (writtenIn s k e) ≡ length s
   unfolding writtenIn
-  length-written = length-sets s (4 * k) numbers
+  length-written = length-sets s (numbersPerRecord * k) numbers
 
   pub written-here : HasRecord s k → Short e → recordAt (writtenIn s k e) k ≡ e
   unfolding recordAt writtenIn naturalPart
   written-here has h =
-      let zeroth : 4 * k + 0 ≡ 4 * k = omega arith in
+      let zeroth : numbersPerRecord * k + 0 ≡ numbersPerRecord * k = omega arith in
       let level : fitting (e .level) ≡ e .level = omega arith in
       let name : fitting (e .name) ≡ e .name = omega arith in
       rw (
@@ -53,14 +54,14 @@ module _ (s : List ℤ) (k : ℕ) (e : Record) where
         chain-back (e .chain) (h .chain),
       )
     where
-      at : (j : ℕ) → j < 4 → getD (writtenIn s k e) (4 * k + j) (pos 0) ≡ getD numbers j (pos 0)
-      at j l = getD-sets-in (pos 0) numbers s (4 * k) j l has
+      at : (j : ℕ) → j < 4 → getD (writtenIn s k e) (numbersPerRecord * k + j) (pos 0) ≡ getD numbers j (pos 0)
+      at j l = getD-sets-in (pos 0) numbers s (numbersPerRecord * k) j l has
 
   pub written-elsewhere : (j : ℕ) → (j ≡ k → ⊥) → recordAt (writtenIn s k e) j ≡ recordAt s j
   unfolding recordAt writtenIn
   written-elsewhere j d =
-      let zeroth : 4 * j + 0 ≡ 4 * j = omega arith in
+      let zeroth : numbersPerRecord * j + 0 ≡ numbersPerRecord * j = omega arith in
       rw (rw zeroth at (same 0 (omega arith)), same 1 (omega arith), same 2 (omega arith), same 3 (omega arith))
     where
-      same : (i : ℕ) → i < 4 → getD (writtenIn s k e) (4 * j + i) (pos 0) ≡ getD s (4 * j + i) (pos 0)
-      same i l = getD-sets-other (pos 0) numbers s (4 * k) (4 * j + i) (⊎-elim (λ b. inl (omega arith)) (λ b. inr (omega (arith, d))) (lt-or-le j k))
+      same : (i : ℕ) → i < 4 → getD (writtenIn s k e) (numbersPerRecord * j + i) (pos 0) ≡ getD s (numbersPerRecord * j + i) (pos 0)
+      same i l = getD-sets-other (pos 0) numbers s (numbersPerRecord * k) (numbersPerRecord * j + i) (⊎-elim (λ b. inl (omega arith)) (λ b. inr (omega (arith, d))) (lt-or-le j k))

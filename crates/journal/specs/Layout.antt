@@ -10,13 +10,14 @@ use Rattle.steps.specs.declared.Found.{Found}
 use Rattle.steps.specs.declared.Found.the-variants.{At, Nothing}
 use Rattle.steps.specs.SweepDown.{naturalPart}
 use Rattle.steps.specs.Rows.{Chain, inRow, closing, Record, Journal}
+use Rattle.steps.specs.Swept.{numbersPerRecord}
 
 -- how many records a slice has room for, and that it has room for record k
 abbrev pub recordsIn : List ℤ → ℕ
-recordsIn s = length s / 4
+recordsIn s = length s / numbersPerRecord
 
 abbrev pub HasRecord : List ℤ → ℕ → Type 0
-HasRecord s k = 4 * k + 4 ≤ length s
+HasRecord s k = numbersPerRecord * k + numbersPerRecord ≤ length s
 
 -- a number of 31 bits as it is
 abbrev pub fitting : ℕ → ℕ
@@ -42,14 +43,14 @@ Short Nothing = Unit
 unfoldable pub recordAt : List ℤ → ℕ → Record
 recordAt s k =
     record {
-      level = naturalPart (getD s (4 * k) (pos 0));
-      name = naturalPart (getD s (4 * k + 1) (pos 0));
-      chain = chainIn (getD s (4 * k + 2) (pos 0));
-      offset = getD s (4 * k + 3) (pos 0);
+      level = naturalPart (getD s (numbersPerRecord * k) (pos 0));
+      name = naturalPart (getD s (numbersPerRecord * k + 1) (pos 0));
+      chain = chainIn (getD s (numbersPerRecord * k + 2) (pos 0));
+      offset = getD s (numbersPerRecord * k + 3) (pos 0);
     }
 
 unfoldable pub writtenIn : List ℤ → ℕ → Record → List ℤ
-writtenIn s k e = sets s (4 * k) (pos (fitting (e .level)) ∷ pos (fitting (e .name)) ∷ rowNumber (e .chain) ∷ e .offset ∷ [])
+writtenIn s k e = sets s (numbersPerRecord * k) (pos (fitting (e .level)) ∷ pos (fitting (e .name)) ∷ rowNumber (e .chain) ∷ e .offset ∷ [])
 
 unfoldable pub recordSlice : Journal (List ℤ)
 recordSlice = record { read = recordAt; written = writtenIn }

@@ -10,6 +10,7 @@ ghost use lib.Seq.{sets};
 ghost use Rattle.steps.specs.Rows.{inRow, closing};
 ghost use Rattle.steps.specs.SweepDown.{naturalPart};
 ghost use Rattle.journal.specs.Layout.{recordsIn, HasRecord, fitting, chainIn, chainOf, Short, recordAt, writtenIn};
+ghost use Rattle.steps.specs.Swept.{numbersPerRecord};
 
 // How many numbers a record has.
 const NUMBERS: usize = 4;
@@ -43,7 +44,7 @@ pub fn natural(z: i32) -> u32
 
 fn write(journal: &mut [i32], k: usize, level: i32, name: i32, row: i32, offset: i32)
     requires { ⌜ HasRecord (now journal) k ⌝ }
-    ensures { λ _. ⌜ now (journal .exit) ≡ sets (now (journal .entry)) (4 * k) (level ∷ name ∷ row ∷ offset ∷ []) ⌝ }
+    ensures { λ _. ⌜ now (journal .exit) ≡ sets (now (journal .entry)) (numbersPerRecord * k) (level ∷ name ∷ row ∷ offset ∷ []) ⌝ }
 {
     let b = NUMBERS * k;
     journal[b] = level;
@@ -121,8 +122,8 @@ pub fn offset_at(journal: &[i32], k: usize) -> i32
 
 // Zeros behind the first k records.
 pub fn zero_from(journal: &mut [i32], k: usize)
-    requires { ⌜ 4 * k ≤ length (now journal) ⌝ }
-    ensures { λ _. ⌜ now (journal .exit) ≡ take (4 * k) (now (journal .entry)) ++ replicate (length (now (journal .entry)) - 4 * k) (pos 0) ⌝ }
+    requires { ⌜ numbersPerRecord * k ≤ length (now journal) ⌝ }
+    ensures { λ _. ⌜ now (journal .exit) ≡ take (numbersPerRecord * k) (now (journal .entry)) ++ replicate (length (now (journal .entry)) - numbersPerRecord * k) (pos 0) ⌝ }
 {
     let mut i = NUMBERS * k;
     while i < journal.len() {

@@ -30,6 +30,8 @@ use Rattle.sweep.specs.Slices.{room, lentRoom, swept, isDone}
 use Rattle.sweep.specs.Lookup.{tables, reading}
 use Rattle.numbering.specs.Outcome.{Lent, leaving, callOf, up, endingBy, leaves, outcome}
 use Rattle.numbering.specs.OnSlices.{sweptUp, readDown, afterSweep, sweeps, inJournal, wholeJournal, sweepsOn}
+use Rattle.sheet.specs.Amounts.{journalNumbersPerEdge, mostEdges}
+use Rattle.steps.specs.Swept.{numbersPerRecord}
 
 pub is-done-end : (u : End) → isDone u ≡ true → u ≡ Done
 is-done-end Done h = refl
@@ -37,7 +39,7 @@ is-done-end NoFreeRow h = absurd (not-both h refl)
 is-done-end Overrun h = absurd (not-both h refl)
 
 -- the numbers of a sweep up fit
-module _ (l : Lent) (few : edgesIn (l .list) ≤ 4096) (eight : length (l .journal) ≡ 8 * edgesIn (l .list)) where
+module _ (l : Lent) (few : edgesIn (l .list) ≤ mostEdges) (eight : length (l .journal) ≡ journalNumbersPerEdge * edgesIn (l .list)) where
   within : Within (lentRoom (l .rows) (l .journal)) (sweptUp l .state)
   unfolding sweptUp room
   within = sweep-within (lentRoom (l .rows) (l .journal)) _ (edgesIn (l .list)) (l .rows) (l .journal)
@@ -49,7 +51,7 @@ module _ (l : Lent) (few : edgesIn (l .list) ≤ 4096) (eight : length (l .journ
   pub peak-fits : sweptUp l .state .end ≡ Done → sweptUp l .state .peak ≤ 8192
   peak-fits d = omega (arith, within .by-name, within .little d, records-fit)
 
-  pub edge-fits : sweptUp l .edge ≤ 4096
+  pub edge-fits : sweptUp l .edge ≤ mostEdges
   unfolding sweptUp
   edge-fits = omega (arith, edge-within (lentRoom (l .rows) (l .journal)) (λ i. listEdge i (edgeAt (l .list) i .tail) (edgeAt (l .list) i .head)) (start 0 (l .rows) (l .journal)) (edgesIn (l .list)))
 
@@ -61,18 +63,18 @@ module _ (l : Lent) {rows₁ journal₁ : List ℤ} {w : Swept} (E : swept rows�
   gives-up NoFreeRow h = refl
   gives-up Overrun h = refl
 
-  pub when-stopped : isDone (w .progress .end) ≡ false → {journal₂ rows₂ : List ℤ} → length rows₁ ≡ length (l .rows) → journal₂ ≡ take (4 * 0) journal₁ ++ replicate (length journal₁ - 4 * 0) (pos 0) → rows₂ ≡ replicate (length rows₁) (pos 0) → leaving (answer.Refused (NoRow (w .edge))) (l .polygons) (l .sequences) journal₂ rows₂ ≡ sweeps l
+  pub when-stopped : isDone (w .progress .end) ≡ false → {journal₂ rows₂ : List ℤ} → length rows₁ ≡ length (l .rows) → journal₂ ≡ take (numbersPerRecord * 0) journal₁ ++ replicate (length journal₁ - numbersPerRecord * 0) (pos 0) → rows₂ ≡ replicate (length rows₁) (pos 0) → leaving (answer.Refused (NoRow (w .edge))) (l .polygons) (l .sequences) journal₂ rows₂ ≡ sweeps l
   unfolding sweeps
   when-stopped h {journal₂} {rows₂} same-rows j r =
       (λ i. leaving (answer.Refused (NoRow (w .edge))) (l .polygons) (l .sequences) ((j ∙ none-taken) i) ((r ∙ ap (λ n. replicate n (pos 0)) same-rows) i))
       ∙ gives-up (w .progress .end) h
       ∙ λ i. afterSweep l (E i) (E i .state .end)
     where
-      none-taken : take (4 * 0) journal₁ ++ replicate (length journal₁ - 4 * 0) (pos 0) ≡ replicate (length (l .journal)) (pos 0)
+      none-taken : take (numbersPerRecord * 0) journal₁ ++ replicate (length journal₁ - numbersPerRecord * 0) (pos 0) ≡ replicate (length (l .journal)) (pos 0)
       none-taken = ap (λ n. take 0 journal₁ ++ replicate n (pos 0)) (let n : length journal₁ - 0 ≡ length (l .journal) = omega arith in n)
 
   -- done: the journal's records and zeros, the numbers read down
-  module _ (d : w .progress .end ≡ Done) (fits : 4 * w .progress .records ≤ length (l .journal)) {count : ℕ} {p₂ q₂ : List ℕ} {rows₂ : List ℤ} (D : reading rows₂ p₂ q₂ count ≡ sweepDown tables recordSlice journal₁ (w .progress .records) (reading rows₁ (l .polygons) (l .sequences) 0)) where
+  module _ (d : w .progress .end ≡ Done) (fits : numbersPerRecord * w .progress .records ≤ length (l .journal)) {count : ℕ} {p₂ q₂ : List ℕ} {rows₂ : List ℤ} (D : reading rows₂ p₂ q₂ count ≡ sweepDown tables recordSlice journal₁ (w .progress .records) (reading rows₁ (l .polygons) (l .sequences) 0)) where
     pub count-fits : count ≤ w .progress .records
     count-fits = omega (arith, ap (λ v. v .polygons) D, polygons-within tables recordSlice journal₁ (w .progress .records) (reading rows₁ (l .polygons) (l .sequences) 0))
 
@@ -80,33 +82,33 @@ module _ (l : Lent) {rows₁ journal₁ : List ℤ} {w : Swept} (E : swept rows�
     unfolding readDown
     read-is = D
 
-    pub when-done : {journal₂ rows₃ : List ℤ} → length rows₂ ≡ length (l .rows) → journal₂ ≡ take (4 * w .progress .records) journal₁ ++ replicate (length journal₁ - 4 * w .progress .records) (pos 0) → rows₃ ≡ replicate (length rows₂) (pos 0) → leaving (answer.Accepted count (w .progress .peak) (w .progress .records)) p₂ q₂ journal₂ rows₃ ≡ sweeps l
+    pub when-done : {journal₂ rows₃ : List ℤ} → length rows₂ ≡ length (l .rows) → journal₂ ≡ take (numbersPerRecord * w .progress .records) journal₁ ++ replicate (length journal₁ - numbersPerRecord * w .progress .records) (pos 0) → rows₃ ≡ replicate (length rows₂) (pos 0) → leaving (answer.Accepted count (w .progress .peak) (w .progress .records)) p₂ q₂ journal₂ rows₃ ≡ sweeps l
     unfolding sweeps
     when-done {journal₂} {rows₃} same-rows j r =
         (λ i. leaving (answer.Accepted count (w .progress .peak) (w .progress .records)) p₂ q₂ ((j ∙ then-zeros) i) ((r ∙ ap (λ n. replicate n (pos 0)) same-rows) i))
-        ∙ (λ i. leaving (answer.Accepted (read-is i .polygons) (w .progress .peak) (w .progress .records)) (read-is i .answers .polygons) (read-is i .answers .sequences) (take (4 * w .progress .records) journal₁ ++ replicate (length (l .journal) - length (take (4 * w .progress .records) journal₁)) (pos 0)) (replicate (length (l .rows)) (pos 0)))
+        ∙ (λ i. leaving (answer.Accepted (read-is i .polygons) (w .progress .peak) (w .progress .records)) (read-is i .answers .polygons) (read-is i .answers .sequences) (take (numbersPerRecord * w .progress .records) journal₁ ++ replicate (length (l .journal) - length (take (numbersPerRecord * w .progress .records) journal₁)) (pos 0)) (replicate (length (l .rows)) (pos 0)))
         ∙ (λ i. afterSweep l (swept rows₁ journal₁ w) (sym d i))
         ∙ λ i. afterSweep l (E i) (E i .state .end)
       where
-        then-zeros : take (4 * w .progress .records) journal₁ ++ replicate (length journal₁ - 4 * w .progress .records) (pos 0) ≡ take (4 * w .progress .records) journal₁ ++ replicate (length (l .journal) - length (take (4 * w .progress .records) journal₁)) (pos 0)
-        then-zeros = ap (λ n. take (4 * w .progress .records) journal₁ ++ replicate n (pos 0)) (let n : length journal₁ - 4 * w .progress .records ≡ length (l .journal) - length (take (4 * w .progress .records) journal₁) = omega (arith, length-take-le (4 * w .progress .records) journal₁ (omega arith)) in n)
+        then-zeros : take (numbersPerRecord * w .progress .records) journal₁ ++ replicate (length journal₁ - numbersPerRecord * w .progress .records) (pos 0) ≡ take (numbersPerRecord * w .progress .records) journal₁ ++ replicate (length (l .journal) - length (take (numbersPerRecord * w .progress .records) journal₁)) (pos 0)
+        then-zeros = ap (λ n. take (numbersPerRecord * w .progress .records) journal₁ ++ replicate n (pos 0)) (let n : length journal₁ - numbersPerRecord * w .progress .records ≡ length (l .journal) - length (take (numbersPerRecord * w .progress .records) journal₁) = omega (arith, length-take-le (numbersPerRecord * w .progress .records) journal₁ (omega arith)) in n)
 
 -- the journal's first part as the sweeps leave it, and zeros behind
-module _ (l : Lent) (long : 8 * edgesIn (l .list) ≤ length (l .journal)) where
-  pub part-long : length (inJournal l .journal) ≡ 8 * edgesIn (l .list)
-  part-long = length-take-le (8 * edgesIn (l .list)) (l .journal) long
+module _ (l : Lent) (long : journalNumbersPerEdge * edgesIn (l .list) ≤ length (l .journal)) where
+  pub part-long : length (inJournal l .journal) ≡ journalNumbersPerEdge * edgesIn (l .list)
+  part-long = length-take-le (journalNumbersPerEdge * edgesIn (l .list)) (l .journal) long
 
-  pub behind : {a : Answer} {p q : List ℕ} {part journal₂ rows₂ : List ℤ} → leaving a p q part rows₂ ≡ sweeps (inJournal l) → length part ≡ 8 * edgesIn (l .list) → journal₂ ≡ take (4 * (2 * edgesIn (l .list))) (part ++ drop (8 * edgesIn (l .list)) (l .journal)) ++ replicate (length (part ++ drop (8 * edgesIn (l .list)) (l .journal)) - 4 * (2 * edgesIn (l .list))) (pos 0) → leaving a p q journal₂ rows₂ ≡ sweepsOn l
+  pub behind : {a : Answer} {p q : List ℕ} {part journal₂ rows₂ : List ℤ} → leaving a p q part rows₂ ≡ sweeps (inJournal l) → length part ≡ journalNumbersPerEdge * edgesIn (l .list) → journal₂ ≡ take (numbersPerRecord * (2 * edgesIn (l .list))) (part ++ drop (journalNumbersPerEdge * edgesIn (l .list)) (l .journal)) ++ replicate (length (part ++ drop (journalNumbersPerEdge * edgesIn (l .list)) (l .journal)) - numbersPerRecord * (2 * edgesIn (l .list))) (pos 0) → leaving a p q journal₂ rows₂ ≡ sweepsOn l
   behind {a} {p} {q} {part} {journal₂} {rows₂} E same j =
       (λ i. leaving a p q ((j ∙ whole) i) rows₂) ∙ (λ i. wholeJournal (length (l .journal)) (E i))
     where
-      front : take (4 * (2 * edgesIn (l .list))) (part ++ drop (8 * edgesIn (l .list)) (l .journal)) ≡ part
-      front = take-at part (drop (8 * edgesIn (l .list)) (l .journal)) (4 * (2 * edgesIn (l .list))) (omega arith)
+      front : take (numbersPerRecord * (2 * edgesIn (l .list))) (part ++ drop (journalNumbersPerEdge * edgesIn (l .list)) (l .journal)) ≡ part
+      front = take-at part (drop (journalNumbersPerEdge * edgesIn (l .list)) (l .journal)) (numbersPerRecord * (2 * edgesIn (l .list))) (omega arith)
 
-      rest : length (part ++ drop (8 * edgesIn (l .list)) (l .journal)) - 4 * (2 * edgesIn (l .list)) ≡ length (l .journal) - length part
-      rest = omega (arith, length-append part (drop (8 * edgesIn (l .list)) (l .journal)), length-drop (8 * edgesIn (l .list)) (l .journal))
+      rest : length (part ++ drop (journalNumbersPerEdge * edgesIn (l .list)) (l .journal)) - numbersPerRecord * (2 * edgesIn (l .list)) ≡ length (l .journal) - length part
+      rest = omega (arith, length-append part (drop (journalNumbersPerEdge * edgesIn (l .list)) (l .journal)), length-drop (journalNumbersPerEdge * edgesIn (l .list)) (l .journal))
 
-      whole : take (4 * (2 * edgesIn (l .list))) (part ++ drop (8 * edgesIn (l .list)) (l .journal)) ++ replicate (length (part ++ drop (8 * edgesIn (l .list)) (l .journal)) - 4 * (2 * edgesIn (l .list))) (pos 0) ≡ part ++ replicate (length (l .journal) - length part) (pos 0)
+      whole : take (numbersPerRecord * (2 * edgesIn (l .list))) (part ++ drop (journalNumbersPerEdge * edgesIn (l .list)) (l .journal)) ++ replicate (length (part ++ drop (journalNumbersPerEdge * edgesIn (l .list)) (l .journal)) - numbersPerRecord * (2 * edgesIn (l .list))) (pos 0) ≡ part ++ replicate (length (l .journal) - length part) (pos 0)
       whole = λ i. front i ++ replicate (rest i) (pos 0)
 
 -- the checks give no 10, so what they refuse leaves everything as it was

@@ -21,7 +21,7 @@ use Rattle.steps.specs.declared.Side.{Side}
 use Rattle.steps.specs.declared.Side.the-variants.{Rising, Falling}
 use Rattle.steps.specs.Rows.{on, with, Branch, Row, Chain, inRow, closing, Record, chainNumber, recordNumbers, Room}
 use Rattle.steps.specs.Plain.{put, newRow, withBranch, finishedBranch, freeRow, plainTable, plainJournal}
-use Rattle.steps.specs.Swept.{plainRoom}
+use Rattle.steps.specs.Swept.{plainRoom, numbersPerRow, numbersPerRecord}
 use Rattle.steps.proofs.Alike.{AlikeBranch, AlikeRow, SmallChain, SmallRecord, Match}
 use Rattle.rows.specs.Layout as rows
 use Rattle.rows.specs.Layout.{pointPlaces, lookRow, openedIn, movedIn, finishedIn, freedIn}
@@ -37,16 +37,16 @@ pub record Ranked (p : Point) (q : ℕ) : Type 0 where
 
 -- a slice of n rows holds a table in its first k rows; the other rows of the table are free
 pub record HoldsRows (n k : ℕ) (s : List ℤ) (t : ℕ → Row ℕ) : Type 0 where
-  pub long : 8 * n ≤ length s
+  pub long : numbersPerRow * n ≤ length s
   pub inside : k ≤ n
   pub row : (r : ℕ) → r < k → AlikeRow Ranked (lookRow s r) (t r)
   pub free : (r : ℕ) → k ≤ r → r < n → t r .used ≡ false
 
 -- a slice holds the first k records, and has room for m
 pub record HoldsRecords (m k : ℕ) (s : List ℤ) (j : ℕ → Record) : Type 0 where
-  pub long : 4 * m ≤ length s
+  pub long : numbersPerRecord * m ≤ length s
   pub entry : (i : ℕ) → i < k → recordAt s i ≡ j i
-  pub number : (i q : ℕ) → i < k → q < 4 → getD s (4 * i + q) (pos 0) ≡ getD (recordNumbers (j i)) q (pos 0)
+  pub number : (i q : ℕ) → i < k → q < 4 → getD s (numbersPerRecord * i + q) (pos 0) ≡ getD (recordNumbers (j i)) q (pos 0)
 
 new-alike : (level : ℕ) {p : Point} {q : ℕ} → Ranked p q → AlikeRow Ranked (newRow level p) (newRow level q)
 new-alike level {p} {q} h = record { used = refl; level = refl; branch = λ s. by s }
@@ -118,13 +118,13 @@ fitting-same e u h =
     let b : fitting (e .name) ≡ e .name = omega (arith, h .name) in
     λ i. pos (a i) ∷ pos (b i) ∷ fits-chain (e .chain) u (h .chain) i ∷ e .offset ∷ []
 
-written-number : (s : List ℤ) (k : ℕ) (e : Record) {most : ℕ} → most < 2147483648 → SmallRecord most e → 4 * k + 4 ≤ length s → (q : ℕ) → q < 4 → getD (writtenIn s k e) (4 * k + q) (pos 0) ≡ getD (recordNumbers e) q (pos 0)
+written-number : (s : List ℤ) (k : ℕ) (e : Record) {most : ℕ} → most < 2147483648 → SmallRecord most e → numbersPerRecord * k + 4 ≤ length s → (q : ℕ) → q < 4 → getD (writtenIn s k e) (numbersPerRecord * k + q) (pos 0) ≡ getD (recordNumbers e) q (pos 0)
 unfolding writtenIn
-written-number s k e u m h q l = getD-sets-in (pos 0) (fittingNumbers e) s (4 * k) q l h ∙ ap (λ v. getD v q (pos 0)) (fitting-same e u m)
+written-number s k e u m h q l = getD-sets-in (pos 0) (fittingNumbers e) s (numbersPerRecord * k) q l h ∙ ap (λ v. getD v q (pos 0)) (fitting-same e u m)
 
-other-number : (s : List ℤ) (k i : ℕ) (e : Record) → (i ≡ k → ⊥) → (q : ℕ) → q < 4 → getD (writtenIn s k e) (4 * i + q) (pos 0) ≡ getD s (4 * i + q) (pos 0)
+other-number : (s : List ℤ) (k i : ℕ) (e : Record) → (i ≡ k → ⊥) → (q : ℕ) → q < 4 → getD (writtenIn s k e) (numbersPerRecord * i + q) (pos 0) ≡ getD s (numbersPerRecord * i + q) (pos 0)
 unfolding writtenIn
-other-number s k i e d q l = getD-sets-other (pos 0) (fittingNumbers e) s (4 * k) (4 * i + q) (⊎-elim (λ b. inl (omega arith)) (λ b. inr (omega (arith, d))) (lt-or-le i k))
+other-number s k i e d q l = getD-sets-other (pos 0) (fittingNumbers e) s (numbersPerRecord * k) (numbersPerRecord * i + q) (⊎-elim (λ b. inl (omega arith)) (λ b. inr (omega (arith, d))) (lt-or-le i k))
 
 written-holds : {m k : ℕ} {s : List ℤ} {j : ℕ → Record} {entry : Record} {most : ℕ} → most < 2147483648 → HoldsRecords m k s j → k < m → SmallRecord most entry → HoldsRecords m (k + 1) (writtenIn s k entry) (put j k entry)
 written-holds {m} {k} {s} {j} {entry} lm H l h =
@@ -135,7 +135,7 @@ written-holds {m} {k} {s} {j} {entry} lm H l h =
           (λ d. rw (ne-eqb i k d, written-elsewhere s k entry i d) (H .entry i (omega (arith, d))))
           (eq-or-ne i k);
       number = λ i q u v. ⊎-elim
-          (λ e. ap (λ x. getD (writtenIn s k entry) (4 * x + q) (pos 0)) e ∙ written-number s k entry lm h (omega (arith, H .long)) q v ∙ sym (ap (λ r. getD (recordNumbers r) q (pos 0)) (put-here j k entry i e)))
+          (λ e. ap (λ x. getD (writtenIn s k entry) (numbersPerRecord * x + q) (pos 0)) e ∙ written-number s k entry lm h (omega (arith, H .long)) q v ∙ sym (ap (λ r. getD (recordNumbers r) q (pos 0)) (put-here j k entry i e)))
           (λ d. other-number s k i entry d q v ∙ H .number i q (omega (arith, d)) v ∙ sym (ap (λ r. getD (recordNumbers r) q (pos 0)) (put-there j k entry i d)))
           (eq-or-ne i k);
     }

@@ -17,6 +17,8 @@ use Rattle.steps.specs.SweepDown.{naturalPart}
 use Rattle.hartley.proofs.results.NumbersFit.{Fits}
 use Rattle.sweep.specs.Lookup.{Answers, numbersIn, givenIn, answeredIn, tables}
 use Rattle.sweep.proofs.Given.{length-given, given-here, given-elsewhere}
+use Rattle.sheet.specs.Amounts.{mostEdges}
+use Rattle.steps.specs.Swept.{numbersPerRow}
 
 -- numbers that fit, in rows that are lent and for edges of the list
 abbrev pub fitting : ℕ → ℕ → Holding
@@ -24,7 +26,7 @@ fitting n edges = record { Row = λ r. r < n; InRow = λ r v. (r < n) × Fits ed
 
 -- a slice of n rows holds a look-up table
 pub record HoldsNumbers (n : ℕ) (t : ℕ → Pair) (s : List ℤ) : Type 0 where
-  pub long : 8 * n ≤ length s
+  pub long : numbersPerRow * n ≤ length s
   pub row : (r : ℕ) → r < n → t r ≡ numbersIn s r
 
 -- two lists hold the answers of the edges
@@ -33,7 +35,7 @@ pub record HoldsAnswers (edges : ℕ) (a : ℕ → Pair) (l : Answers) : Type 0 
   pub polygon : (e : ℕ) → e < edges → getD (l .polygons) e 0 ≡ a e .polygon
   pub sequence : (e : ℕ) → e < edges → getD (l .sequences) e 0 ≡ naturalPart (a e .sequence)
 
-given-holds : {n edges : ℕ} {t : ℕ → Pair} {s : List ℤ} → edges ≤ 4096 → HoldsNumbers n t s → (r : ℕ) (v : Pair) → (r < n) × Fits edges v → HoldsNumbers n (put t r v) (givenIn s r v)
+given-holds : {n edges : ℕ} {t : ℕ → Pair} {s : List ℤ} → edges ≤ mostEdges → HoldsNumbers n t s → (r : ℕ) (v : Pair) → (r < n) × Fits edges v → HoldsNumbers n (put t r v) (givenIn s r v)
 given-holds {n} {edges} {t} {s} few H r v (l, f) =
     record {
       long = omega (arith, H .long, length-given s r v);
@@ -52,6 +54,6 @@ answered-holds {edges} {a} {l} H e v (h, f) =
       sequence = λ k m. ⊎-elim (λ q. rw (eq-eqb k e q, q) (getD-set-same (l .sequences) e (naturalPart (v .sequence)) 0 (omega (arith, H .long .1)))) (λ d. rw (ne-eqb k e d) (getD-set-other (l .sequences) e k (naturalPart (v .sequence)) 0 d ∙ H .sequence k m)) (eq-or-ne k e);
     }
 
-pub matched-down : (n edges : ℕ) → edges ≤ 4096 → MatchDown plainTables tables (HoldsNumbers n) (HoldsAnswers edges) (fitting n edges)
+pub matched-down : (n edges : ℕ) → edges ≤ mostEdges → MatchDown plainTables tables (HoldsNumbers n) (HoldsAnswers edges) (fitting n edges)
 unfolding plainTables tables
 matched-down n edges few = record { look = λ H r h. H .row r h; given = λ H r v h. given-holds few H r v h; answered = λ H e v h. answered-holds H e v h }

@@ -24,7 +24,7 @@ use Rattle.steps.specs.Rows.{Record, recordNumbers}
 use Rattle.steps.specs.SweepUp.{Sweep, listEdge, start}
 use Rattle.steps.specs.SweepDown.{naturalPart, Pair, Reading}
 use Rattle.steps.specs.Plain.{plainTables, plainJournal}
-use Rattle.steps.specs.Swept.{rowsIn, plainRoom, edgeOf, freeRows, noRecords, noPairs, sweptTo, readDown}
+use Rattle.steps.specs.Swept.{rowsIn, plainRoom, edgeOf, freeRows, noRecords, noPairs, sweptTo, readDown, numbersPerRecord}
 use Rattle.steps.proofs.Alike.{Match, Alike, AlikeSweep, start-alike, sweep-alike}
 use Rattle.steps.proofs.AlikeDown.{MatchDown, AlikeReading, down-alike}
 use Rattle.journal.specs.Layout.{recordSlice, recordsIn}
@@ -36,18 +36,19 @@ use Rattle.numbering.specs.OnSlices as slices
 use Rattle.numbering.specs.OnSlices.{inJournal, wholeJournal, afterSweep, sweepsOn}
 use Rattle.numbering.proofs.Matching.{Ranked, HoldsRows, HoldsRecords, sliceRoom, matched}
 use Rattle.numbering.proofs.MatchingDown.{HoldsNumbers, HoldsAnswers, matched-down, fitting}
+use Rattle.sheet.specs.Amounts.{journalNumbersPerEdge, mostEdges}
 
 -- the numbers of the records that a slice holds
-held-numbers : {m n : ℕ} {s : List ℤ} {j : ℕ → Record} → HoldsRecords m n s j → n ≤ m → take (4 * n) s ≡ listed (λ k. recordNumbers (j k)) n
+held-numbers : {m n : ℕ} {s : List ℤ} {j : ℕ → Record} → HoldsRecords m n s j → n ≤ m → take (numbersPerRecord * n) s ≡ listed (λ k. recordNumbers (j k)) n
 held-numbers {m} {n} {s} {j} H l = listed-is 4 (λ k. recordNumbers (j k)) s n part
   where
-    four : (i : ℕ) → i < n → 4 ≤ length (drop (4 * i) s)
-    four i h = omega (arith, lib.ListN.length-drop (4 * i) s, H .long)
+    four : (i : ℕ) → i < n → 4 ≤ length (drop (numbersPerRecord * i) s)
+    four i h = omega (arith, lib.ListN.length-drop (numbersPerRecord * i) s, H .long)
 
-    part : (i : ℕ) → i < n → take 4 (drop (4 * i) s) ≡ recordNumbers (j i)
+    part : (i : ℕ) → i < n → take 4 (drop (numbersPerRecord * i) s) ≡ recordNumbers (j i)
     part i h =
-        ext-getD (pos 0) (take 4 (drop (4 * i) s)) (recordNumbers (j i)) (length-take-le 4 (drop (4 * i) s) (four i h))
-        (λ q u. let v : q < 4 = omega (arith, u, length-take-le 4 (drop (4 * i) s) (four i h)) in getD-take 4 (drop (4 * i) s) q (pos 0) v ∙ getD-drop (4 * i) s q (pos 0) ∙ H .number i q h v)
+        ext-getD (pos 0) (take 4 (drop (numbersPerRecord * i) s)) (recordNumbers (j i)) (length-take-le 4 (drop (numbersPerRecord * i) s) (four i h))
+        (λ q u. let v : q < 4 = omega (arith, u, length-take-le 4 (drop (numbersPerRecord * i) s) (four i h)) in getD-take 4 (drop (numbersPerRecord * i) s) q (pos 0) v ∙ getD-drop (numbersPerRecord * i) s q (pos 0) ∙ H .number i q h v)
 
 -- zeros behind zeros
 zeros-twice : (x : List ℤ) (n m : ℕ) → length x ≤ n → n ≤ m → followedByZeros (followedByZeros x n) m ≡ followedByZeros x m
@@ -71,8 +72,8 @@ module _ (l : Lent) (ok : checked (callOf l) ≡ Passed) where
   abbrev part : List ℤ
   part = inJournal l .journal
 
-  part-long : length part ≡ 8 * edges
-  part-long = length-take-le (8 * edges) (l .journal) (all .journal)
+  part-long : length part ≡ journalNumbersPerEdge * edges
+  part-long = length-take-le (journalNumbersPerEdge * edges) (l .journal) (all .journal)
 
   abbrev rows : ℕ
   rows = rowsIn (l .rows)
@@ -87,7 +88,7 @@ module _ (l : Lent) (ok : checked (callOf l) ≡ Passed) where
   few-records : records ≤ 8192
   few-records = omega (arith, part-long, all .few)
 
-  pub few : drawingOf (l .list) .edges ≤ 4096
+  pub few : drawingOf (l .list) .edges ≤ mostEdges
   unfolding drawingOf
   few = all .few
 
@@ -189,11 +190,11 @@ module _ (l : Lent) (ok : checked (callOf l) ≡ Passed) where
     same-count : slices.readDown (inJournal l) swept .polygons ≡ down l .polygons
     same-count = sym (same-read .polygons) ∙ same-polygons (all .sheet) numbers between-numbers
 
-    same-journal : followedByZeros (followedByZeros (take (4 * swept .state .records) (swept .state .journal)) (length part)) (length (l .journal)) ≡ followedByZeros (listed (λ k. recordNumbers (up l .state .journal k)) (up l .state .records)) (length (l .journal))
+    same-journal : followedByZeros (followedByZeros (take (numbersPerRecord * swept .state .records) (swept .state .journal)) (length part)) (length (l .journal)) ≡ followedByZeros (listed (λ k. recordNumbers (up l .state .journal k)) (up l .state .records)) (length (l .journal))
     same-journal =
-        let front : take (4 * swept .state .records) (swept .state .journal) ≡ listed (λ k. recordNumbers (up l .state .journal k)) (up l .state .records) = held-numbers (alike .state .journal) (alike .state .kept) ∙ ap (listed (λ k. recordNumbers (up l .state .journal k))) (alike .state .records) in
-        let four : length (take (4 * swept .state .records) (swept .state .journal)) ≡ 4 * swept .state .records = length-take-le (4 * swept .state .records) (swept .state .journal) (omega (arith, alike .state .journal .long, alike .state .kept)) in
-        zeros-twice (take (4 * swept .state .records) (swept .state .journal)) (length part) (length (l .journal)) (omega (arith, four, alike .state .kept, part-long)) (omega (arith, part-long, all .journal))
+        let front : take (numbersPerRecord * swept .state .records) (swept .state .journal) ≡ listed (λ k. recordNumbers (up l .state .journal k)) (up l .state .records) = held-numbers (alike .state .journal) (alike .state .kept) ∙ ap (listed (λ k. recordNumbers (up l .state .journal k))) (alike .state .records) in
+        let four : length (take (numbersPerRecord * swept .state .records) (swept .state .journal)) ≡ numbersPerRecord * swept .state .records = length-take-le (numbersPerRecord * swept .state .records) (swept .state .journal) (omega (arith, alike .state .journal .long, alike .state .kept)) in
+        zeros-twice (take (numbersPerRecord * swept .state .records) (swept .state .journal)) (length part) (length (l .journal)) (omega (arith, four, alike .state .kept, part-long)) (omega (arith, part-long, all .journal))
         ∙ ap (λ x. followedByZeros x (length (l .journal))) front
 
     runs-done : sweepsOn l ≡ leaves l (Accepted (down l .polygons) (up l .state .peak) (up l .state .records))

@@ -30,6 +30,8 @@ use Rattle.steps.specs.Swept as swept
 use Rattle.numbering.specs.Outcome as outcomes
 use Rattle.numbering.specs.Outcome.{Lent, Left, outcome}
 use Rattle.numbering.specs.Promised.{Promised}
+use Rattle.sheet.specs.Amounts.{numbersPerEdge}
+use Rattle.steps.specs.Swept.{numbersPerRow}
 
 -- a sheet with the lengths of the slices lent, and what 01 says of it: refusal and place, or 0, 0; polygons, peak, records; the two lists
 record Expected : Type 0 where
@@ -53,7 +55,7 @@ lentFor w =
       polygons = replicate (w .polygons-lent) 77;
       sequences = replicate (w .sequences-lent) 77;
       journal = replicate (w .journal-lent) (pos 77);
-      rows = replicate (8 * w .rows) (pos 77);
+      rows = replicate (numbersPerRow * w .rows) (pos 77);
     }
 
 abbrev sameList : List ℕ → List ℕ → Bool
@@ -81,8 +83,8 @@ accepted : List ℕ → ℕ → ℕ → ℕ → ℕ → List ℕ → List ℕ �
 accepted list rows polygons peak records polygon sequence =
     record {
       list = list;
-      polygons-lent = length list / 4;
-      sequences-lent = length list / 4;
+      polygons-lent = length list / numbersPerEdge;
+      sequences-lent = length list / numbersPerEdge;
       journal-lent = 2 * length list;
       rows = rows;
       refusal = 0;
@@ -113,7 +115,7 @@ refusedWith list polygons-lent sequences-lent journal-lent rows number place =
     }
 
 refused : List ℕ → ℕ → ℕ → ℕ → Expected
-refused list rows number place = refusedWith list (length list / 4) (length list / 4) (2 * length list) rows number place
+refused list rows number place = refusedWith list (length list / numbersPerEdge) (length list / numbersPerEdge) (2 * length list) rows number place
 
 empty : Expected
 empty = accepted [] 0 0 0 0 [] []
@@ -140,7 +142,7 @@ sheets =
     ∷ two-touching
     ∷ three-pairs
     ∷ refused (0 ∷ 0 ∷ 4 ∷ []) 1 1 0
-    ∷ refusedWith (replicate (4 * 4097) 0) 0 0 0 0 2 0
+    ∷ refusedWith (replicate (numbersPerEdge * 4097) 0) 0 0 0 0 2 0
     ∷ refusedWith triangle 2 3 24 1 3 0
     ∷ refusedWith triangle 3 4 24 1 3 0
     ∷ refusedWith triangle 3 3 23 1 4 0

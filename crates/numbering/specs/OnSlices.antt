@@ -17,6 +17,8 @@ use Rattle.journal.specs.Layout.{recordSlice}
 use Rattle.sweep.specs.Slices.{lentRoom}
 use Rattle.sweep.specs.Lookup.{Answers, tables, reading}
 use Rattle.numbering.specs.Outcome.{Lent, Left}
+use Rattle.sheet.specs.Amounts.{journalNumbersPerEdge}
+use Rattle.steps.specs.Swept.{numbersPerRecord}
 
 unfoldable pub sweptUp : Lent → Sweep (List ℤ) (List ℤ)
 sweptUp l =
@@ -36,7 +38,7 @@ accepted l w d =
       answer = answer.Accepted (d .polygons) (w .state .peak) (w .state .records);
       polygons = d .answers .polygons;
       sequences = d .answers .sequences;
-      journal = followedByZeros (take (4 * w .state .records) (w .state .journal)) (length (l .journal));
+      journal = followedByZeros (take (numbersPerRecord * w .state .records) (w .state .journal)) (length (l .journal));
       rows = zeros (l .rows);
     }
 
@@ -51,7 +53,7 @@ sweeps l = afterSweep l (sweptUp l) (sweptUp l .state .end)
 
 -- the sweeps work in the journal's first eight numbers an edge, and what lies behind is set to zero
 abbrev pub inJournal : Lent → Lent
-inJournal l = record { list = l .list; polygons = l .polygons; sequences = l .sequences; journal = take (8 * edgesIn (l .list)) (l .journal); rows = l .rows }
+inJournal l = record { list = l .list; polygons = l .polygons; sequences = l .sequences; journal = take (journalNumbersPerEdge * edgesIn (l .list)) (l .journal); rows = l .rows }
 
 abbrev pub wholeJournal : ℕ → Left → Left
 wholeJournal n x =

@@ -9,6 +9,7 @@ ghost use lib.ListN.{length};
 ghost use Rattle.numbering.specs.OnSlices.{sweeps, sweepsOn};
 ghost use Rattle.numbering.specs.Outcome.{lent, leaving};
 ghost use Rattle.numbering.specs.Promised.{Promised};
+ghost use Rattle.sheet.specs.Amounts.{numbersPerEdge, journalNumbersPerEdge, mostEdges};
 
 // How many numbers of the journal an edge needs.
 const JOURNAL_NUMBERS: usize = 8;
@@ -39,7 +40,7 @@ fn number_checked(
     journal: &mut [i32],
     rows: &mut [i32],
 ) -> Answer
-    requires { ⌜ (length (now edges) / 4 ≤ 4096) × (8 * (length (now edges) / 4) ≤ length (now journal)) ⌝ }
+    requires { ⌜ (length (now edges) / numbersPerEdge ≤ mostEdges) × (journalNumbersPerEdge * (length (now edges) / numbersPerEdge) ≤ length (now journal)) ⌝ }
     ensures { λ r. ⌜ leaving r (now (polygons .exit)) (now (sequences .exit)) (now (journal .exit)) (now (rows .exit)) ≡ sweepsOn (lent (now (edges .entry)) (now (polygons .entry)) (now (sequences .entry)) (now (journal .entry)) (now (rows .entry))) ⌝ }
 {
     let n = edges.len() / Edge::NUMBERS;
@@ -57,7 +58,7 @@ fn sweep_both(
     journal: &mut [i32],
     rows: &mut [i32],
 ) -> Answer
-    requires { ⌜ (length (now edges) / 4 ≤ 4096) × (length (now journal) ≡ 8 * (length (now edges) / 4)) ⌝ }
+    requires { ⌜ (length (now edges) / numbersPerEdge ≤ mostEdges) × (length (now journal) ≡ journalNumbersPerEdge * (length (now edges) / numbersPerEdge)) ⌝ }
     ensures { λ r. ⌜ leaving r (now (polygons .exit)) (now (sequences .exit)) (now (journal .exit)) (now (rows .exit)) ≡ sweeps (lent (now (edges .entry)) (now (polygons .entry)) (now (sequences .entry)) (now (journal .entry)) (now (rows .entry))) ⌝ }
 {
     let n = edges.len() / Edge::NUMBERS;

@@ -13,6 +13,7 @@ use Rattle.steps.specs.declared.Side.the-variants.{Rising, Falling}
 use Rattle.steps.specs.Rows.{on}
 use Rattle.steps.specs.SweepUp.{bothFinished}
 use Rattle.rows.specs.Layout.{branchAt, lookBranch, lookRow}
+use Rattle.steps.specs.Swept.{numbersPerRow}
 
 module _ (s : List ℤ) (r : ℕ) where
   pub branch-is : (side : Side) → on side (lookRow s r .branch) ≡ lookBranch s (branchAt side r)
@@ -29,9 +30,9 @@ module _ (s : List ℤ) (r : ℕ) where
   unfolding lookBranch
   tip-is side = rw branch-is
 
-  pub both-is : bothFinished (lookRow s r) ≡ (not (nonNeg (getD s (8 * r + 3) (pos 0))) && not (nonNeg (getD s (8 * r + 6) (pos 0))))
+  pub both-is : bothFinished (lookRow s r) ≡ (not (nonNeg (getD s (numbersPerRow * r + 3) (pos 0))) && not (nonNeg (getD s (numbersPerRow * r + 6) (pos 0))))
   unfolding lookRow lookBranch
   both-is =
-      let three : 8 * r + 1 + 2 ≡ 8 * r + 3 = omega arith in
-      let six : 8 * r + 4 + 2 ≡ 8 * r + 6 = omega arith in
+      let three : numbersPerRow * r + 1 + 2 ≡ numbersPerRow * r + 3 = omega arith in
+      let six : numbersPerRow * r + 4 + 2 ≡ numbersPerRow * r + 6 = omega arith in
       rw (three, six)

@@ -25,6 +25,7 @@ use Rattle.steps.specs.declared.Found.the-variants.{At, Nothing}
 use Rattle.steps.specs.Rows.{on}
 use Rattle.steps.specs.SweepUp.{pickFound, foundBelow, hasTip}
 use Rattle.rows.specs.Layout.{pointPlaces, HasRow, lookRow}
+use Rattle.steps.specs.Swept.{numbersPerRow}
 
 -- a search that stops at m, past which no number below n passes
 module _ (p : ℕ → Bool) (n m : ℕ) (l : m ≤ n) where
@@ -52,12 +53,12 @@ found-is p n r e = by (ltb (first p n) n) refl e
     by false h q = let z : _≡_ {A = ℕ} 0 1 = cc in absurd (omega arith)
 
 module _ (s : List ℤ) where
-  past-free : (r : ℕ) → length s < 8 * r + 8 → lookRow s r .used ≡ false
+  past-free : (r : ℕ) → length s < numbersPerRow * r + 8 → lookRow s r .used ≡ false
   unfolding lookRow
-  past-free r h = rw (lt-leb (8 * r + 8) (length s) h)
+  past-free r h = rw (lt-leb (numbersPerRow * r + numbersPerRow) (length s) h)
 
   has-row : (r : ℕ) → lookRow s r .used ≡ true → HasRow s r
-  has-row r e = ⊎-elim (λ h. absurd (not-both e (past-free r h))) (λ h. h) (lt-or-le (length s) (8 * r + 8))
+  has-row r e = ⊎-elim (λ h. absurd (not-both e (past-free r h))) (λ h. h) (lt-or-le (length s) (numbersPerRow * r + numbersPerRow))
 
   module _ (level : ℕ) (side : Side) (tip : Point) where
     tip-in-use : (r : ℕ) → hasTip pointPlaces level side tip (lookRow s r) ≡ true → lookRow s r .used ≡ true
@@ -83,7 +84,7 @@ module _ (s : List ℤ) where
     pub found-level : (peak r : ℕ) → foundBelow (λ k. hasTip pointPlaces level side tip (lookRow s k)) peak ≡ At r → lookRow s r .level ≡ level
     found-level peak r e = tip-parts r (found-is (λ k. hasTip pointPlaces level side tip (lookRow s k)) peak r e .1) .0
 
-    pub past-no-tip : (r : ℕ) → length s < 8 * r + 8 → hasTip pointPlaces level side tip (lookRow s r) ≡ false
+    pub past-no-tip : (r : ℕ) → length s < numbersPerRow * r + 8 → hasTip pointPlaces level side tip (lookRow s r) ≡ false
     unfolding hasTip
     past-no-tip r h = rw (past-free r h)
 
@@ -97,13 +98,13 @@ module _ (s : List ℤ) where
       sign (negsuc n) false h = absurd (not-both refl h)
 
   -- the first number decides of a row that is there
-  pub row-free : (r : ℕ) → HasRow s r → mag (getD s (8 * r) (pos 0)) < 2147483648 → (t : Bool) →
-      leZ (toZ w32 (ofZ w32 (getD s (8 * r) (pos 0)))) (pos 0) ≡ t → not (lookRow s r .used) ≡ t
+  pub row-free : (r : ℕ) → HasRow s r → mag (getD s (numbersPerRow * r) (pos 0)) < 2147483648 → (t : Bool) →
+      leZ (toZ w32 (ofZ w32 (getD s (numbersPerRow * r) (pos 0)))) (pos 0) ≡ t → not (lookRow s r .used) ≡ t
   unfolding lookRow
-  row-free r has f t h = rw (le-leb (8 * r + 8) (length s) has, in-use (getD s (8 * r) (pos 0)) f t h) (not-not t)
+  row-free r has f t h = rw (le-leb (numbersPerRow * r + numbersPerRow) (length s) has, in-use (getD s (numbersPerRow * r) (pos 0)) f t h) (not-not t)
 
   -- a search that stops at m, which is the peak or past the slice
-  module _ (peak m : ℕ) (stop : m ≡ min peak (length s / 8)) where
+  module _ (peak m : ℕ) (stop : m ≡ min peak (length s / numbersPerRow)) where
     pub free-found : (r : ℕ) → r < m → not (lookRow s r .used) ≡ true → ((k : ℕ) → k < r → not (lookRow s k .used) ≡ false) →
         r ≡ first (λ k. not (lookRow s k .used)) peak
     free-found r l t least = first-is (λ k. not (lookRow s k .used)) peak r (omega arith) (λ _. t) least

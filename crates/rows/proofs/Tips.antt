@@ -23,6 +23,7 @@ use Rattle.steps.specs.declared.Side.the-variants.{Rising, Falling}
 use Rattle.steps.specs.SweepUp.{hasTip}
 use Rattle.rows.specs.Layout.{pointPlaces, HasRow, branchAt, levelIn, lookBranch, lookRow}
 use Rattle.rows.proofs.Signs.{plain-read, tested}
+use Rattle.steps.specs.Swept.{numbersPerRow}
 
 -- in use and of the level: the first number is the level and 1
 level-number : (z : ℤ) (level : ℕ) → (ltZ (pos 0) z && eqb (levelIn z) level) ≡ sameZ z (pos (level + 1))
@@ -45,12 +46,12 @@ module _ (level : ℕ) (h : level < 2147483647) where
 module _ (s : List ℤ) (r level : ℕ) (side : Side) (tip : Point) (has : HasRow s r) where
   byNumbers : ℕ → Bool
   byNumbers b =
-      sameZ (getD s (8 * r) (pos 0)) (pos (level + 1)) && (nonNeg (getD s (b + 2) (pos 0)) && isSame (record { x = getD s b (pos 0); y = getD s (b + 1) (pos 0) }) tip)
+      sameZ (getD s (numbersPerRow * r) (pos 0)) (pos (level + 1)) && (nonNeg (getD s (b + 2) (pos 0)) && isSame (record { x = getD s b (pos 0); y = getD s (b + 1) (pos 0) }) tip)
 
   tip-test : (x : Side) → hasTip pointPlaces level x tip (lookRow s r) ≡ byNumbers (branchAt x r)
   unfolding hasTip pointPlaces lookRow lookBranch byNumbers
-  tip-test Rising = rw (le-leb (8 * r + 8) (length s) has) (simp (not-not, and-assoc, level-number))
-  tip-test Falling = rw (le-leb (8 * r + 8) (length s) has) (simp (not-not, and-assoc, level-number))
+  tip-test Rising = rw (le-leb (numbersPerRow * r + numbersPerRow) (length s) has) (simp (not-not, and-assoc, level-number))
+  tip-test Falling = rw (le-leb (numbersPerRow * r + numbersPerRow) (length s) has) (simp (not-not, and-assoc, level-number))
 
   module _ (b : ℕ) (at : b ≡ branchAt side r) where
     test-at : hasTip pointPlaces level side tip (lookRow s r) ≡ byNumbers b
@@ -68,9 +69,9 @@ module _ (s : List ℤ) (r level : ℕ) (side : Side) (tip : Point) (has : HasRo
       unfolding byNumbers
       finished-there h = rw (test-at, sign true h) (sym (simp and-false))
 
-      pub level-decides : level < 2147483647 → mag (getD s (8 * r) (pos 0)) < 2147483648 →
+      pub level-decides : level < 2147483647 → mag (getD s (numbersPerRow * r) (pos 0)) < 2147483648 →
           isSame (record { x = getD s b (pos 0); y = getD s (b + 1) (pos 0) }) tip ≡ true → ltZ (toZ w32 (ofZ w32 (getD s (b + 2) (pos 0)))) (pos 0) ≡ false →
-          eqb (ofZ w32 (getD s (8 * r) (pos 0))) (ofZ w32 (toZ w32 level +ℤ pos 1)) ≡ hasTip pointPlaces level side tip (lookRow s r)
+          eqb (ofZ w32 (getD s (numbersPerRow * r) (pos 0))) (ofZ w32 (toZ w32 level +ℤ pos 1)) ≡ hasTip pointPlaces level side tip (lookRow s r)
       unfolding byNumbers
       level-decides hl f0 e h =
-          rw (test-at, sign false h, e, and-true, mark-is level hl) (bits-sameZ (getD s (8 * r) (pos 0)) (pos (level + 1)) f0 (omega arith))
+          rw (test-at, sign false h, e, and-true, mark-is level hl) (bits-sameZ (getD s (numbersPerRow * r) (pos 0)) (pos (level + 1)) f0 (omega arith))

@@ -20,6 +20,7 @@ use Rattle.steps.specs.Plain.{newRow, withBranch, finishedBranch, freeRow}
 use Rattle.rows.specs.Layout.{HasRow, branchAt, levelIn, freedNumber, lookBranch, lookRow, openedIn, movedIn, finishedIn, freedIn}
 use Rattle.laws.proofs.Sets.{getD-sets-other, getD-sets-in}
 use Rattle.rows.proofs.Looking.{branch-is}
+use Rattle.steps.specs.Swept.{numbersPerRow}
 
 -- the numbers that are stored
 abbrev opening : ℕ → Point → List ℤ
@@ -57,18 +58,18 @@ branch-kept s t b same =
 -- t is s but for row r
 pub record OnlyRow (s t : List ℤ) (r : ℕ) : Type 0 where
   pub kept : length t ≡ length s
-  pub outside : (j : ℕ) → (j < 8 * r) ⊎ (8 * r + 8 ≤ j) → getD t j (pos 0) ≡ getD s j (pos 0)
+  pub outside : (j : ℕ) → (j < numbersPerRow * r) ⊎ (numbersPerRow * r + numbersPerRow ≤ j) → getD t j (pos 0) ≡ getD s j (pos 0)
 
 pub other-row : {s t : List ℤ} {r : ℕ} → OnlyRow s t r → (q : ℕ) → (q ≡ r → ⊥) → lookRow t q ≡ lookRow s q
 unfolding lookRow
 other-row {s} {t} {r} o q d = rw (
   o .kept,
-  same (8 * q) (omega arith) (omega arith),
-  branch-kept s t (8 * q + 1) (λ j l h. same j (omega arith) (omega arith)),
-  branch-kept s t (8 * q + 4) (λ j l h. same j (omega arith) (omega arith)),
+  same (numbersPerRow * q) (omega arith) (omega arith),
+  branch-kept s t (numbersPerRow * q + 1) (λ j l h. same j (omega arith) (omega arith)),
+  branch-kept s t (numbersPerRow * q + 4) (λ j l h. same j (omega arith) (omega arith)),
 )
   where
-    same : (j : ℕ) → 8 * q ≤ j → j < 8 * q + 8 → getD t j (pos 0) ≡ getD s j (pos 0)
+    same : (j : ℕ) → numbersPerRow * q ≤ j → j < numbersPerRow * q + 8 → getD t j (pos 0) ≡ getD s j (pos 0)
     same j l h = o .outside j (⊎-elim (λ b. inl (omega arith)) (λ b. inr (omega (arith, d))) (lt-or-le q r))
 
 -- t is s but for one branch of row r
@@ -76,7 +77,7 @@ record OnlyBranch (s t : List ℤ) (r : ℕ) (side : Side) : Type 0 where
   kept : length t ≡ length s
   outside : (j : ℕ) → (j < branchAt side r) ⊎ (branchAt side r + 3 ≤ j) → getD t j (pos 0) ≡ getD s j (pos 0)
 
-branch-inside : (r : ℕ) (side : Side) → (8 * r < branchAt side r) × (branchAt side r + 3 < 8 * r + 8)
+branch-inside : (r : ℕ) (side : Side) → (numbersPerRow * r < branchAt side r) × (branchAt side r + 3 < numbersPerRow * r + numbersPerRow)
 branch-inside r Rising = (omega arith, omega arith)
 branch-inside r Falling = (omega arith, omega arith)
 
@@ -91,14 +92,14 @@ with-branch : {s t : List ℤ} {r : ℕ} (side : Side) → OnlyBranch s t r side
     lookRow t r ≡ withBranch (lookRow s r) side b
 unfolding lookRow
 with-branch {s} {t} {r} Rising o e =
-    rw (o .kept, o .outside (8 * r) (inl (omega arith)), e, branch-kept s t (8 * r + 4) (λ j l h. o .outside j (inr (omega arith))))
+    rw (o .kept, o .outside (numbersPerRow * r) (inl (omega arith)), e, branch-kept s t (numbersPerRow * r + 4) (λ j l h. o .outside j (inr (omega arith))))
 with-branch {s} {t} {r} Falling o e =
-    rw (o .kept, o .outside (8 * r) (inl (omega arith)), e, branch-kept s t (8 * r + 1) (λ j l h. o .outside j (inl (omega arith))))
+    rw (o .kept, o .outside (numbersPerRow * r) (inl (omega arith)), e, branch-kept s t (numbersPerRow * r + 1) (λ j l h. o .outside j (inl (omega arith))))
 
 module _ (s : List ℤ) (r : ℕ) where
   pub opened-only : (level : ℕ) (p : Point) → OnlyRow s (openedIn s r level p) r
   unfolding openedIn
-  opened-only level p = record { kept = length-sets s (8 * r) (opening level p); outside = λ j h. getD-sets-other (pos 0) (opening level p) s (8 * r) j h }
+  opened-only level p = record { kept = length-sets s (numbersPerRow * r) (opening level p); outside = λ j h. getD-sets-other (pos 0) (opening level p) s (numbersPerRow * r) j h }
 
   moved-branch : (side : Side) (p : Point) (n : ℕ) → OnlyBranch s (movedIn s r side p n) r side
   unfolding movedIn
@@ -119,9 +120,9 @@ module _ (s : List ℤ) (r : ℕ) where
   pub finished-only : (side : Side) → OnlyRow s (finishedIn s r side) r
   finished-only side = only-row (finished-branch side)
 
-  freed-kept : (j : ℕ) → (j ≡ 8 * r → ⊥) → getD (freedIn s r) j (pos 0) ≡ getD s j (pos 0)
+  freed-kept : (j : ℕ) → (j ≡ numbersPerRow * r → ⊥) → getD (freedIn s r) j (pos 0) ≡ getD s j (pos 0)
   unfolding freedIn
-  freed-kept j d = getD-set-other s (8 * r) j _ (pos 0) d
+  freed-kept j d = getD-set-other s (numbersPerRow * r) j _ (pos 0) d
 
   pub freed-only : OnlyRow s (freedIn s r) r
   unfolding freedIn
@@ -135,16 +136,16 @@ module _ (s : List ℤ) (r : ℕ) where
         let t = openedIn s r level p in
         rw (
           opened-only level p .kept,
-          le-leb (8 * r + 8) (length s) has,
-          at 0 (8 * r) (omega arith) (omega arith),
+          le-leb (numbersPerRow * r + numbersPerRow) (length s) has,
+          at 0 (numbersPerRow * r) (omega arith) (omega arith),
           e,
           lt-ltb 0 (level + 1) (omega arith),
-          branch-read t (8 * r + 1) (at 1 _ (omega arith) (omega arith)) (at 2 _ (omega arith) (omega arith)) (at 3 _ (omega arith) (omega arith)),
-          branch-read t (8 * r + 4) (at 4 _ (omega arith) (omega arith)) (at 5 _ (omega arith) (omega arith)) (at 6 _ (omega arith) (omega arith)),
+          branch-read t (numbersPerRow * r + 1) (at 1 _ (omega arith) (omega arith)) (at 2 _ (omega arith) (omega arith)) (at 3 _ (omega arith) (omega arith)),
+          branch-read t (numbersPerRow * r + 4) (at 4 _ (omega arith) (omega arith)) (at 5 _ (omega arith) (omega arith)) (at 6 _ (omega arith) (omega arith)),
         )
       where
-        at : (k j : ℕ) → j ≡ 8 * r + k → k < 8 → getD (openedIn s r level p) j (pos 0) ≡ getD (opening level p) k (pos 0)
-        at k j e h = rw e (getD-sets-in (pos 0) (opening level p) s (8 * r) k h has)
+        at : (k j : ℕ) → j ≡ numbersPerRow * r + k → k < 8 → getD (openedIn s r level p) j (pos 0) ≡ getD (opening level p) k (pos 0)
+        at k j e h = rw e (getD-sets-in (pos 0) (opening level p) s (numbersPerRow * r) k h has)
 
     pub moved-here : (p : Point) (n : ℕ) (side : Side) → lookRow (movedIn s r side p n) r ≡ withBranch (lookRow s r) side (record { tip = p; length = n; finished = false })
     unfolding movedIn
@@ -169,9 +170,9 @@ module _ (s : List ℤ) (r : ℕ) where
         is : branchOf (getD s (branchAt side r) (pos 0)) (getD s (branchAt side r + 1) (pos 0)) (negsuc (mag (getD s (branchAt side r + 2) (pos 0)))) ≡ finishedBranch (on side (lookRow s r .branch))
         is = rw (branch-is s r side)
 
-    freed-put : getD (freedIn s r) (8 * r) (pos 0) ≡ freedNumber (getD s (8 * r) (pos 0))
+    freed-put : getD (freedIn s r) (numbersPerRow * r) (pos 0) ≡ freedNumber (getD s (numbersPerRow * r) (pos 0))
     unfolding freedIn
-    freed-put = getD-set-same s (8 * r) _ (pos 0) (omega arith)
+    freed-put = getD-set-same s (numbersPerRow * r) _ (pos 0) (omega arith)
 
     pub freed-here : lookRow (freedIn s r) r ≡ freeRow (lookRow s r)
     unfolding lookRow
@@ -179,10 +180,10 @@ module _ (s : List ℤ) (r : ℕ) where
         let t = freedIn s r in
         rw (
           freed-only .kept,
-          le-leb (8 * r + 8) (length s) has,
+          le-leb (numbersPerRow * r + numbersPerRow) (length s) has,
           freed-put,
-          freed-number-free (getD s (8 * r) (pos 0)),
-          freed-number-level (getD s (8 * r) (pos 0)),
-          branch-kept s t (8 * r + 1) (λ j l h. freed-kept j (λ e. omega arith)),
-          branch-kept s t (8 * r + 4) (λ j l h. freed-kept j (λ e. omega arith)),
+          freed-number-free (getD s (numbersPerRow * r) (pos 0)),
+          freed-number-level (getD s (numbersPerRow * r) (pos 0)),
+          branch-kept s t (numbersPerRow * r + 1) (λ j l h. freed-kept j (λ e. omega arith)),
+          branch-kept s t (numbersPerRow * r + 4) (λ j l h. freed-kept j (λ e. omega arith)),
         )

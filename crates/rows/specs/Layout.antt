@@ -14,6 +14,7 @@ use Rattle.sheet.specs.Points.{isSame, isBelow}
 use Rattle.steps.specs.declared.Side.{Side}
 use Rattle.steps.specs.declared.Side.the-variants.{Rising, Falling}
 use Rattle.steps.specs.Rows.{Branch, Row, Places, Table}
+use Rattle.steps.specs.Swept.{numbersPerRow}
 
 -- points compare as points do, and none is apart
 unfoldable pub pointPlaces : Places Point
@@ -21,12 +22,12 @@ pointPlaces = record { same = isSame; below = isBelow; apart = λ p. false }
 
 -- that a slice has row r
 abbrev pub HasRow : List ℤ → ℕ → Type 0
-HasRow s r = 8 * r + 8 ≤ length s
+HasRow s r = numbersPerRow * r + numbersPerRow ≤ length s
 
 -- where a branch's three numbers start
 abbrev pub branchAt : Side → ℕ → ℕ
-branchAt Rising r = 8 * r + 1
-branchAt Falling r = 8 * r + 4
+branchAt Rising r = numbersPerRow * r + 1
+branchAt Falling r = numbersPerRow * r + 4
 
 -- the level that a row's number 0 tells
 unfoldable pub levelIn : ℤ → ℕ
@@ -50,13 +51,13 @@ lookBranch s b =
 unfoldable pub lookRow : List ℤ → ℕ → Row Point
 lookRow s r =
     record {
-      used = leb (8 * r + 8) (length s) && ltZ (pos 0) (getD s (8 * r) (pos 0));
-      level = levelIn (getD s (8 * r) (pos 0));
+      used = leb (numbersPerRow * r + numbersPerRow) (length s) && ltZ (pos 0) (getD s (numbersPerRow * r) (pos 0));
+      level = levelIn (getD s (numbersPerRow * r) (pos 0));
       branch = record { rising = lookBranch s (branchAt Rising r); falling = lookBranch s (branchAt Falling r) };
     }
 
 unfoldable pub openedIn : List ℤ → ℕ → ℕ → Point → List ℤ
-openedIn s r level p = sets s (8 * r) (pos (level + 1) ∷ p .x ∷ p .y ∷ pos 0 ∷ p .x ∷ p .y ∷ pos 0 ∷ pos 0 ∷ [])
+openedIn s r level p = sets s (numbersPerRow * r) (pos (level + 1) ∷ p .x ∷ p .y ∷ pos 0 ∷ p .x ∷ p .y ∷ pos 0 ∷ pos 0 ∷ [])
 
 unfoldable pub movedIn : List ℤ → ℕ → Side → Point → ℕ → List ℤ
 movedIn s r side p n = sets s (branchAt side r) (p .x ∷ p .y ∷ pos n ∷ [])
@@ -65,7 +66,7 @@ unfoldable pub finishedIn : List ℤ → ℕ → Side → List ℤ
 finishedIn s r side = set s (branchAt side r + 2) (negsuc (mag (getD s (branchAt side r + 2) (pos 0))))
 
 unfoldable pub freedIn : List ℤ → ℕ → List ℤ
-freedIn s r = set s (8 * r) (freedNumber (getD s (8 * r) (pos 0)))
+freedIn s r = set s (numbersPerRow * r) (freedNumber (getD s (numbersPerRow * r) (pos 0)))
 
 unfoldable pub rowSlice : Table Point (List ℤ)
 rowSlice = record { look = lookRow; opened = openedIn; moved = movedIn; finished = finishedIn; freed = freedIn }

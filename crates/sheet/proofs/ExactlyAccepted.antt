@@ -20,6 +20,7 @@ use Rattle.sheet.specs.declared.TurnRefusal.the-variants.{LengthsDiffer,
 use Rattle.sheet.specs.declared.TurnAnswer.{TurnAnswer}
 use Rattle.sheet.specs.declared.TurnAnswer.the-variants.{Accepted}
 use Rattle.sheet.specs.TurnList.{NumberLists, numberLists, noPolygon, pairRepeated, gap, refuseTurn, refuseFirstTurn, lengthsDiffer, turned, GoodNumbering, GoodLists, AcceptsExactly}
+use Rattle.sheet.specs.Amounts.{mostEdges}
 
 -- a test that cannot hold fails, and `a && not b` fails just where a gives b
 fails : (b : Bool) → (b ≡ true → ⊥) → b ≡ false
@@ -185,14 +186,14 @@ module _ (polygons sequences : List ℕ) (turns n : ℕ) where
       record {
         sequences-too = sym (eqb-true _ _ (same .0));
         turns-too = sym (eqb-true _ _ (same .1));
-        few = ltb-false 4096 _ (size .1);
+        few = ltb-false mostEdges _ (size .1);
         numbering = rw m at (good (numberLists polygons sequences) (record { has-polygon = w12 .0; once = w13 .0; no-hole = w14 .0 }));
       }
 
   good-accepted : GoodLists polygons sequences turns n → turned polygons sequences turns ≡ Accepted n
   unfolding turned lengthsDiffer numberLists
   good-accepted G =
-      rw (eq-eqb (length polygons) (length sequences) (sym (G .sequences-too)), eq-eqb (length polygons) turns (sym (G .turns-too)), le-ltb 4096 (length polygons) (G .few))
+      rw (eq-eqb (length polygons) (length sequences) (sym (G .sequences-too)), eq-eqb (length polygons) turns (sym (G .turns-too)), le-ltb mostEdges (length polygons) (G .few))
       (sym (good-answer (numberLists polygons sequences) (G .numbering)))
 
 pub accepts-exactly : (polygons sequences : List ℕ) (turns : ℕ) → AcceptsExactly polygons sequences turns (turned polygons sequences turns)

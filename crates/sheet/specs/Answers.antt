@@ -26,6 +26,7 @@ use Rattle.sheet.specs.declared.Answer.the-variants as answer
 use Rattle.sheet.specs.Points.{inRange, isSame, isBelow, topOf}
 use Rattle.sheet.specs.Edges.{Drawing, edgeAt, edgesIn, drawingOf}
 use Rattle.sheet.specs.Kinds.{Way, arriving, leaving, From, below, above, endOf, comes, numberAt}
+use Rattle.sheet.specs.Amounts.{numbersPerEdge, journalNumbersPerEdge, mostEdges}
 
 -- What the checks see of a call: the edge list, and how many numbers long the two number lists and the journal are.
 pub record Call : Type 0 where
@@ -62,11 +63,11 @@ placeOf (NoRow e) = e
 
 -- 1: the list is not made of whole edges
 unfoldable pub notWhole : Call → Bool
-notWhole c = not (eqb (length (c .list) % 4) 0)
+notWhole c = not (eqb (length (c .list) % numbersPerEdge) 0)
 
 -- 2: over 4,096 edges
 unfoldable pub tooMany : Call → Bool
-tooMany c = ltb 4096 (edgesIn (c .list))
+tooMany c = ltb mostEdges (edgesIn (c .list))
 
 -- 3: the polygon list or the sequence list has another length than one number an edge
 unfoldable pub listsDiffer : Call → Bool
@@ -74,7 +75,7 @@ listsDiffer c = not (eqb (c .polygons) (edgesIn (c .list)) && eqb (c .sequences)
 
 -- 4: the journal has less than 8 numbers an edge
 unfoldable pub journalShort : Call → Bool
-journalShort c = ltb (c .journal) (8 * edgesIn (c .list))
+journalShort c = ltb (c .journal) (journalNumbersPerEdge * edgesIn (c .list))
 
 -- 5: an end out of the range
 unfoldable pub pastRange : List ℤ → ℕ → Bool

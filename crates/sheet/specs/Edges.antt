@@ -6,17 +6,18 @@ use lib.IntN.{ℤ, pos}
 use lib.ListN.{getD, length}
 use Rattle.sheet.specs.declared.Edge.{Edge}
 use Rattle.sheet.specs.Rank.{rank}
+use Rattle.sheet.specs.Amounts.{numbersPerEdge}
 
 -- 01 Points 1.1: the four numbers of an edge in their order
 unfoldable pub edgeAt : List ℤ → ℕ → Edge
 edgeAt s e =
     record {
-      tail = record { x = getD s (4 * e) (pos 0); y = getD s (4 * e + 1) (pos 0) };
-      head = record { x = getD s (4 * e + 2) (pos 0); y = getD s (4 * e + 3) (pos 0) };
+      tail = record { x = getD s (numbersPerEdge * e) (pos 0); y = getD s (numbersPerEdge * e + 1) (pos 0) };
+      head = record { x = getD s (numbersPerEdge * e + 2) (pos 0); y = getD s (numbersPerEdge * e + 3) (pos 0) };
     }
 
 unfoldable pub edgesIn : List ℤ → ℕ
-edgesIn s = length s / 4
+edgesIn s = length s / numbersPerEdge
 
 -- A list of edges: how many there are, and the places of each one's tail and head. Below, above and highest go by the height of places; edges meet
 -- where places are equal. A place has a film, and where it is apart its two lower edges do not join each other.

@@ -1,4 +1,5 @@
 -- The statements, in the order to read them.
+pub mod Amounts
 pub mod Points
 pub mod Rank
 pub mod Edges

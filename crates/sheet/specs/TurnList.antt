@@ -11,6 +11,7 @@ use Rattle.sheet.specs.declared.TurnRefusal.{TurnRefusal}
 use Rattle.sheet.specs.declared.TurnRefusal.the-variants.{LengthsDiffer, NoPolygon, PairRepeated, Gap}
 use Rattle.sheet.specs.declared.TurnAnswer.{TurnAnswer}
 use Rattle.sheet.specs.declared.TurnAnswer.the-variants as answer
+use Rattle.sheet.specs.Amounts.{mostEdges}
 
 abbrev pub turnNumberOf : TurnRefusal → ℕ
 turnNumberOf LengthsDiffer = 11
@@ -56,7 +57,7 @@ refuseFirstTurn v test refusal rest = refuseTurn (ltb (first (test v) (v .edges)
 
 -- 11: not three lengths that are equal and at most 4,096
 unfoldable pub lengthsDiffer : ℕ → ℕ → ℕ → Bool
-lengthsDiffer polygons sequences turns = not (eqb polygons sequences && eqb polygons turns) || ltb 4096 polygons
+lengthsDiffer polygons sequences turns = not (eqb polygons sequences && eqb polygons turns) || ltb mostEdges polygons
 
 -- the order of trying, 12 to 14 each over the whole list; what is accepted has as many polygons as its largest number
 unfoldable pub turned : List ℕ → List ℕ → ℕ → TurnAnswer
@@ -79,7 +80,7 @@ pub record GoodNumbering (v : NumberLists) (polygons : ℕ) : Type 0 where
 pub record GoodLists (polygons sequences : List ℕ) (turns n : ℕ) : Type 0 where
   pub sequences-too : length sequences ≡ length polygons
   pub turns-too : turns ≡ length polygons
-  pub few : length polygons ≤ 4096
+  pub few : length polygons ≤ mostEdges
   pub numbering : GoodNumbering (numberLists polygons sequences) n
 
 -- 01: an answer accepts exactly these, each with its number of polygons. `turned` does (proofs/ExactlyAccepted.antt).

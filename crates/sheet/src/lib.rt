@@ -8,6 +8,7 @@ ghost use Rattle.sheet.specs.Rank.{shift, rank};
 ghost use Rattle.sheet.specs.Edges.{edgeAt};
 ghost use Rattle.sheet.specs.Answers.{numberOf, placeOf};
 ghost use Rattle.sheet.specs.TurnList.{turnNumberOf, turnPlaceOf};
+ghost use Rattle.sheet.specs.Amounts.{numbersPerEdge};
 
 pub struct Point {
     pub x: i32,
@@ -85,7 +86,7 @@ impl Edge {
 
     // The edge at a place of a list.
     pub fn at(edges: &[i32], place: usize) -> Edge
-        requires { ⌜ 4 * place + 3 < length (now edges) ⌝ }
+        requires { ⌜ numbersPerEdge * place + 3 < length (now edges) ⌝ }
         ensures { λ r. ⌜ r ≡ edgeAt (now (edges .entry)) place ⌝ }
     {
         let first = Edge::NUMBERS * place;

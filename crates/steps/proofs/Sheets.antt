@@ -21,6 +21,7 @@ use Rattle.steps.specs.SweepDown.{Pair, Reading}
 use Rattle.steps.specs.Plain as plain
 use Rattle.steps.specs.Swept as swept
 use Rattle.steps.specs.Swept.{sweptTo, readDown}
+use Rattle.sheet.specs.Amounts.{numbersPerEdge}
 
 -- a sheet with the rows lent, and what 01 says of it: how it ends and at which edge, polygons, peak, records, the pairs in list order
 record Worked : Type 0 where
@@ -56,12 +57,12 @@ samePairs answers n i (p ∷ s ∷ rest) = eqb (answers i .polygon) p && (eqb (n
 -- a sheet that ends early is compared up to there
 abbrev rightNumbers : End → State (ℕ → Row ℕ) (ℕ → Record) → Worked → Bool
 rightNumbers Done s w =
-    eqb (readOf s .polygons) (w .polygons) && (eqb (s .peak) (w .peak) && (eqb (s .records) (w .records) && samePairs (readOf s .answers) (length (w .list) / 4) 0 (w .pairs)))
+    eqb (readOf s .polygons) (w .polygons) && (eqb (s .peak) (w .peak) && (eqb (s .records) (w .records) && samePairs (readOf s .answers) (length (w .list) / numbersPerEdge) 0 (w .pairs)))
 rightNumbers NoFreeRow s w = true
 rightNumbers Overrun s w = true
 
 right : Worked → Bool
-right w = both (sweptTo (drawingOf (map pos (w .list))) (w .rows) (length (w .list) / 4))
+right w = both (sweptTo (drawingOf (map pos (w .list))) (w .rows) (length (w .list) / numbersPerEdge))
   where
     both : Sweep (ℕ → Row ℕ) (ℕ → Record) → Bool
     both s = sameEnd (s .state .end) (w .end) && (eqb (s .edge) (w .edge) && rightNumbers (s .state .end) (s .state) w)

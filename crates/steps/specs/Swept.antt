@@ -23,9 +23,16 @@ plainRoom sh rows records = record { places = placesOf sh; table = plainTable; j
 abbrev pub edgeOf : Drawing → ℕ → LevelEdge ℕ
 edgeOf sh i = listEdge i (sh .tail i) (sh .head i)
 
--- rows are lent as a slice, eight numbers each; a part of a row at the end is no row
+-- the numbers of a row and of a record in the slices lent
+abbrev pub numbersPerRow : ℕ
+numbersPerRow = 8
+
+abbrev pub numbersPerRecord : ℕ
+numbersPerRecord = 4
+
+-- how many rows a slice has; a part of a row at the end is no row
 abbrev pub rowsIn : List ℤ → ℕ
-rowsIn s = length s / 8
+rowsIn s = length s / numbersPerRow
 
 -- before the first edge
 abbrev pub freeRows : ℕ → Row ℕ

@@ -16,6 +16,7 @@ use Rattle.journal.specs.Layout.{fitting}
 use Rattle.steps.specs.SweepDown.{Pair}
 use Rattle.sweep.specs.Lookup.{narrowed, numbersIn, givenIn}
 use Rattle.sweep.proofs.Sums.{narrowed-held}
+use Rattle.steps.specs.Swept.{numbersPerRow}
 
 module _ (s : List ℤ) (r : ℕ) (v : Pair) where
   abbrev stored : List ℤ
@@ -23,23 +24,23 @@ module _ (s : List ℤ) (r : ℕ) (v : Pair) where
 
   pub length-given : length (givenIn s r v) ≡ length s
   unfolding givenIn
-  length-given = length-sets s (8 * r) stored
+  length-given = length-sets s (numbersPerRow * r) stored
 
-  pub given-here : 8 * r + 1 < length s → v .polygon < 2147483648 → mag (v .sequence) < 2147483648 → numbersIn (givenIn s r v) r ≡ v
+  pub given-here : numbersPerRow * r + 1 < length s → v .polygon < 2147483648 → mag (v .sequence) < 2147483648 → numbersIn (givenIn s r v) r ≡ v
   unfolding givenIn numbersIn naturalPart
   given-here has p q =
-      let zeroth : 8 * r + 0 ≡ 8 * r = omega arith in
+      let zeroth : numbersPerRow * r + 0 ≡ numbersPerRow * r = omega arith in
       let polygon : fitting (v .polygon) ≡ v .polygon = omega arith in
       rw (rw zeroth at (at 0 (omega arith)), at 1 (omega arith), polygon, narrowed-held (v .sequence) q)
     where
-      at : (k : ℕ) → k < 2 → getD (givenIn s r v) (8 * r + k) (pos 0) ≡ getD stored k (pos 0)
-      at k l = getD-sets-in (pos 0) stored s (8 * r) k l (omega arith)
+      at : (k : ℕ) → k < 2 → getD (givenIn s r v) (numbersPerRow * r + k) (pos 0) ≡ getD stored k (pos 0)
+      at k l = getD-sets-in (pos 0) stored s (numbersPerRow * r) k l (omega arith)
 
   pub given-elsewhere : (q : ℕ) → (q ≡ r → ⊥) → numbersIn (givenIn s r v) q ≡ numbersIn s q
   unfolding givenIn numbersIn
   given-elsewhere q d =
-      let zeroth : 8 * q + 0 ≡ 8 * q = omega arith in
+      let zeroth : numbersPerRow * q + 0 ≡ numbersPerRow * q = omega arith in
       rw (rw zeroth at (same 0 (omega arith)), same 1 (omega arith))
     where
-      same : (k : ℕ) → k < 2 → getD (givenIn s r v) (8 * q + k) (pos 0) ≡ getD s (8 * q + k) (pos 0)
-      same k l = getD-sets-other (pos 0) stored s (8 * r) (8 * q + k) (⊎-elim (λ b. inl (omega arith)) (λ b. inr (omega (arith, d))) (lt-or-le q r))
+      same : (k : ℕ) → k < 2 → getD (givenIn s r v) (numbersPerRow * q + k) (pos 0) ≡ getD s (numbersPerRow * q + k) (pos 0)
+      same k l = getD-sets-other (pos 0) stored s (numbersPerRow * r) (numbersPerRow * q + k) (⊎-elim (λ b. inl (omega arith)) (λ b. inr (omega (arith, d))) (lt-or-le q r))

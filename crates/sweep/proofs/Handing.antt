@@ -13,10 +13,11 @@ use Rattle.steps.specs.SweepDown.{naturalPart}
 use Rattle.journal.specs.Layout.{fitting, recordAt, recordSlice}
 use Rattle.sweep.specs.Lookup.{Answers, narrowed, numbersIn, givenIn, answeredIn, tables, reading}
 use Rattle.sweep.proofs.Sums.{narrowed-held}
+use Rattle.steps.specs.Swept.{numbersPerRow}
 
 module _ (a : List ℤ) (p q : List ℕ) (n : ℕ) (e : Record) where
   pub read-closing : {x : Chain} → closing ≡ x → mag (e .offset) < 2147483648 → {a₁ : List ℤ} →
-      a₁ ≡ sets a (8 * e .name) (pos (fitting (n + 1)) ∷ e .offset ∷ []) → reading a₁ p q (n + 1) ≡ steps.readRecord tables (reading a p q n) e x
+      a₁ ≡ sets a (numbersPerRow * e .name) (pos (fitting (n + 1)) ∷ e .offset ∷ []) → reading a₁ p q (n + 1) ≡ steps.readRecord tables (reading a p q n) e x
   unfolding tables givenIn
   read-closing c f g = rw (← c, g, narrowed-held (e .offset) f)
 
@@ -28,7 +29,7 @@ module _ (a : List ℤ) (p q : List ℕ) (n : ℕ) (e : Record) where
     read-answer l ep eq = rw (l, ep, eq)
 
     pub read-given : (e .level ≡ 0 → ⊥) → {a₁ : List ℤ} →
-        a₁ ≡ sets a (8 * e .name) (pos (fitting (numbersIn a r .polygon)) ∷ narrowed (numbersIn a r .sequence +ℤ e .offset) ∷ []) →
+        a₁ ≡ sets a (numbersPerRow * e .name) (pos (fitting (numbersIn a r .polygon)) ∷ narrowed (numbersIn a r .sequence +ℤ e .offset) ∷ []) →
         reading a₁ p q n ≡ steps.readRecord tables (reading a p q n) e (inRow r)
     unfolding tables givenIn
     read-given l {a₁} g = by (e .level) refl

@@ -18,6 +18,7 @@ use Rattle.sweep.specs.declared.NamedEdge.{NamedEdge}
 use Rattle.sweep.specs.declared.Swept.{Swept}
 use Rattle.sweep.specs.Slices.{room, lentRoom, state, edgeOf, isDone, swept}
 use Rattle.sweep.proofs.Rooms.{same-room, stops, goes-on}
+use Rattle.steps.specs.Swept.{numbersPerRecord}
 
 module _ (a b : List ℤ) (list : ℕ → LevelEdge Point) where
   pub next-edge : (i : ℕ) {a₁ b₁ : List ℤ} {w : Swept} → swept a₁ b₁ w ≡ up.sweepUp (lentRoom a b) list (start 0 a b) i →
@@ -40,6 +41,6 @@ module _ (a b : List ℤ) (list : ℕ → LevelEdge Point) where
   sweep-stays n i l s d = let z : (n - i) + i ≡ n = omega arith in rw z at (stays-by (n - i) i s d)
 
   -- the records that are written are there
-  pub records-there : (n : ℕ) {a₁ b₁ : List ℤ} (w : Swept) → swept a₁ b₁ w ≡ up.sweepUp (lentRoom a b) list (start 0 a b) n → 4 * w .progress .records ≤ length b
+  pub records-there : (n : ℕ) {a₁ b₁ : List ℤ} (w : Swept) → swept a₁ b₁ w ≡ up.sweepUp (lentRoom a b) list (start 0 a b) n → numbersPerRecord * w .progress .records ≤ length b
   unfolding room
   records-there n w e = omega (arith, sweep-within (lentRoom a b) list n a b .kept, ap (λ (x : Sweep (List ℤ) (List ℤ)). x .state .records) e)

@@ -12,6 +12,7 @@ use lib.Signed.{mag}
 use Rattle.steps.specs.SweepDown.{Pair, Tables, Reading}
 use Rattle.steps.specs.SweepDown.{naturalPart}
 use Rattle.journal.specs.Layout.{fitting}
+use Rattle.steps.specs.Swept.{numbersPerRow}
 
 -- the polygon numbers and the sequence numbers of the edges
 pub record Answers : Type 0 where
@@ -23,10 +24,10 @@ unfoldable pub narrowed : ℤ → ℤ
 narrowed z = cond (ltb (mag z) 2147483648) z (pos 0)
 
 unfoldable pub numbersIn : List ℤ → ℕ → Pair
-numbersIn s r = record { polygon = naturalPart (getD s (8 * r) (pos 0)); sequence = getD s (8 * r + 1) (pos 0) }
+numbersIn s r = record { polygon = naturalPart (getD s (numbersPerRow * r) (pos 0)); sequence = getD s (numbersPerRow * r + 1) (pos 0) }
 
 unfoldable pub givenIn : List ℤ → ℕ → Pair → List ℤ
-givenIn s r v = sets s (8 * r) (pos (fitting (v .polygon)) ∷ narrowed (v .sequence) ∷ [])
+givenIn s r v = sets s (numbersPerRow * r) (pos (fitting (v .polygon)) ∷ narrowed (v .sequence) ∷ [])
 
 unfoldable pub answeredIn : Answers → ℕ → Pair → Answers
 answeredIn l e v = record { polygons = set (l .polygons) e (v .polygon); sequences = set (l .sequences) e (naturalPart (v .sequence)) }

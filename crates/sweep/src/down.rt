@@ -12,6 +12,7 @@ ghost use Rattle.steps.specs.SweepDown as steps;
 ghost use Rattle.steps.specs.SweepDown.{naturalPart};
 ghost use Rattle.journal.specs.Layout.{HasRecord, fitting, recordAt, recordSlice};
 ghost use Rattle.sweep.specs.Lookup.{narrowed, numbersIn, tables, reading};
+ghost use Rattle.steps.specs.Swept.{numbersPerRow, numbersPerRecord};
 
 // The number at a place, 0 past the end.
 fn number_at(s: &[i32], i: usize) -> i32
@@ -85,7 +86,7 @@ fn sequence_of(rows: &[i32], r: usize) -> i32
 // A row given a polygon number and a sequence number.
 fn give(rows: &mut [i32], r: usize, polygon: usize, sequence: i32)
     requires { ⌜ r < 2147483648 ⌝ }
-    ensures { λ _. ⌜ now (rows .exit) ≡ sets (now (rows .entry)) (8 * r) (pos (fitting polygon) ∷ sequence ∷ []) ⌝ }
+    ensures { λ _. ⌜ now (rows .exit) ≡ sets (now (rows .entry)) (numbersPerRow * r) (pos (fitting polygon) ∷ sequence ∷ []) ⌝ }
 {
     let p = journal::fit(polygon);
     put(rows, rows::NUMBERS * r, p);
@@ -146,7 +147,7 @@ pub fn sweep_down(
     polygons: &mut [u32],
     sequences: &mut [u32],
 ) -> usize
-    requires { ⌜ 4 * records ≤ length (now journal) ⌝ }
+    requires { ⌜ numbersPerRecord * records ≤ length (now journal) ⌝ }
     ensures { λ n. ⌜ reading (now (rows .exit)) (now (polygons .exit)) (now (sequences .exit)) n ≡ steps.sweepDown tables recordSlice (now (journal .entry)) records (reading (now (rows .entry)) (now (polygons .entry)) (now (sequences .entry)) 0) ⌝ }
 {
     let mut count: usize = 0;

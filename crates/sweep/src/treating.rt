@@ -14,6 +14,7 @@ ghost use Rattle.steps.specs.SweepUp as up;
 ghost use Rattle.rows.specs.Layout.{HasRow, lookRow};
 ghost use Rattle.rows.specs.Marks.{Marked};
 ghost use Rattle.sweep.specs.Slices.{lentRoom, state, edgeOf};
+ghost use Rattle.steps.specs.SweepUp.{levels};
 
 // The largest length that a row holds.
 const MOST_LENGTH: u64 = 2_147_483_647;
@@ -126,7 +127,7 @@ pub fn treat(
     left: u32,
     e: NamedEdge,
 ) -> Progress
-    requires { ⌜ (level + left ≡ 12) × (e .falling < 2147483648) ⌝ }
+    requires { ⌜ (level + left ≡ levels) × (e .falling < 2147483648) ⌝ }
     requires { ⌜ Marked (now marks) (now rows) (s .peak) ⌝ }
     ensures { λ p. ⌜ state (now (rows .exit)) (now (journal .exit)) p ≡ up.treat (lentRoom (now (rows .entry)) (now (journal .entry))) left level (state (now (rows .entry)) (now (journal .entry)) s) (edgeOf e) ⌝ }
     ensures { λ p. ⌜ Marked (now (marks .exit)) (now (rows .exit)) (p .peak) ⌝ }
@@ -164,7 +165,7 @@ fn on_row(
     e: NamedEdge,
     r: usize,
 ) -> Progress
-    requires { ⌜ HasRow (now rows) r × (lookRow (now rows) r .level ≡ level) × (level + left ≡ 12) × (0 < left) ⌝ }
+    requires { ⌜ HasRow (now rows) r × (lookRow (now rows) r .level ≡ level) × (level + left ≡ levels) × (0 < left) ⌝ }
     requires { ⌜ Marked (now marks) (now rows) (s .peak) ⌝ }
     ensures { λ p. ⌜ state (now (rows .exit)) (now (journal .exit)) p ≡ up.onRow (lentRoom (now (rows .entry)) (now (journal .entry))) (up.treat (lentRoom (now (rows .entry)) (now (journal .entry))) (left - 1) (level + 1)) (state (now (rows .entry)) (now (journal .entry)) s) level side (edgeOf e) r ⌝ }
     ensures { λ p. ⌜ Marked (now (marks .exit)) (now (rows .exit)) (p .peak) ⌝ }
@@ -195,7 +196,7 @@ fn pass_both(
     q: usize,
     r: usize,
 ) -> Progress
-    requires { ⌜ HasRow (now rows) q × HasRow (now rows) r × (level + left ≡ 12) × (0 < left) ⌝ }
+    requires { ⌜ HasRow (now rows) q × HasRow (now rows) r × (level + left ≡ levels) × (0 < left) ⌝ }
     requires { ⌜ Marked (now marks) (now rows) (s .peak) ⌝ }
     ensures { λ p. ⌜ state (now (rows .exit)) (now (journal .exit)) p ≡ up.passBoth (lentRoom (now (rows .entry)) (now (journal .entry))) (up.treat (lentRoom (now (rows .entry)) (now (journal .entry))) (left - 1) (level + 1)) (state (now (rows .entry)) (now (journal .entry)) s) q r ⌝ }
     ensures { λ p. ⌜ Marked (now (marks .exit)) (now (rows .exit)) (p .peak) ⌝ }
@@ -220,7 +221,7 @@ fn pass_up(
     left: u32,
     r: usize,
 ) -> Progress
-    requires { ⌜ HasRow (now rows) r × (level + left ≡ 12) × (0 < left) ⌝ }
+    requires { ⌜ HasRow (now rows) r × (level + left ≡ levels) × (0 < left) ⌝ }
     requires { ⌜ Marked (now marks) (now rows) (s .peak) ⌝ }
     ensures { λ p. ⌜ state (now (rows .exit)) (now (journal .exit)) p ≡ up.passUp (lentRoom (now (rows .entry)) (now (journal .entry))) (up.treat (lentRoom (now (rows .entry)) (now (journal .entry))) (left - 1) (level + 1)) (state (now (rows .entry)) (now (journal .entry)) s) r ⌝ }
     ensures { λ p. ⌜ Marked (now (marks .exit)) (now (rows .exit)) (p .peak) ⌝ }

@@ -8,15 +8,17 @@ use steps::End;
 ghost use mathlib.Core.Path.{_≡_};
 ghost use Prim.Native.Nat.{_+_, _*_, _≤_, _<_};
 ghost use lib.ListN.{length};
-ghost use Rattle.steps.specs.SweepUp.{sweepUp, start};
+ghost use Rattle.steps.specs.SweepUp.{sweepUp, start, levels};
 ghost use Rattle.sweep.specs.Slices.{lentRoom, edgeOf, listEdges, swept};
+ghost use Rattle.sheet.specs.Amounts.{numbersPerEdge};
+ghost use Rattle.steps.specs.Swept.{numbersPerRecord};
 
 // The levels that an edge of the list has above it.
 const LEVELS: u32 = 12;
 
 // An edge of the list, named by its place: rising length 1, falling length 0.
 fn list_edge(edges: &[i32], i: usize) -> NamedEdge
-    requires { ⌜ 4 * i + 3 < length (now edges) ⌝ }
+    requires { ⌜ numbersPerEdge * i + 3 < length (now edges) ⌝ }
     ensures { λ e. ⌜ (edgeOf e ≡ listEdges (now (edges .entry)) i) × (e .falling ≡ 0) ⌝ }
 {
     let edge = Edge::at(edges, i);
@@ -33,9 +35,9 @@ fn list_edge(edges: &[i32], i: usize) -> NamedEdge
 
 // The first n edges of the list, until one is not done.
 pub fn sweep_up(edges: &[i32], n: usize, journal: &mut [i32], rows: &mut [i32]) -> Swept
-    requires { ⌜ 4 * n ≤ length (now edges) ⌝ }
+    requires { ⌜ numbersPerEdge * n ≤ length (now edges) ⌝ }
     ensures { λ w. ⌜ swept (now (rows .exit)) (now (journal .exit)) w ≡ sweepUp (lentRoom (now (rows .entry)) (now (journal .entry))) (listEdges (now (edges .entry))) (start 0 (now (rows .entry)) (now (journal .entry))) n ⌝ }
-    ensures { λ w. ⌜ 4 * w .progress .records ≤ length (now (journal .entry)) ⌝ }
+    ensures { λ w. ⌜ numbersPerRecord * w .progress .records ≤ length (now (journal .entry)) ⌝ }
 {
     let mut s = Progress {
         records: 0,

@@ -16,6 +16,7 @@ use Rattle.sheet.specs.TurnList.{NumberLists, numberLists, noPolygon, pairRepea
 use Rattle.sheet.proofs.ExactlyAccepted.{accepts-exactly}
 use Rattle.turns.specs.Keys.{Sizes}
 use Rattle.turns.specs.Answers.{withoutPolygon, numbersTurned}
+use Rattle.sheet.specs.Amounts.{mostEdges}
 
 module _ (v : NumberLists) (test : NumberLists → ℕ → Bool) (refusal : ℕ → TurnRefusal) (rest : TurnAnswer) {r : ℕ} (found : r ≡ first (test v) (v .edges)) where
   pub refuses : r < v .edges → Refused (refusal r) ≡ refuseFirstTurn v test refusal rest
@@ -35,12 +36,12 @@ module _ (polygons sequences : List ℕ) (turns : ℕ) {differ : Bool} (told : d
     unfolding turned numbersTurned
     turned-numbers = rw (← told, equal)
 
-    alike : (length polygons ≡ length sequences) × (length polygons ≡ turns) × (length polygons ≤ 4096)
+    alike : (length polygons ≡ length sequences) × (length polygons ≡ turns) × (length polygons ≤ mostEdges)
     unfolding lengthsDiffer
     alike =
         let w = neither-true _ _ (sym told ∙ equal) in
         let s = both-true (eqb (length polygons) (length sequences)) _ (not-false _ (w .0)) in
-        (eqb-true _ _ (s .0), eqb-true _ _ (s .1), ltb-false 4096 _ (w .1))
+        (eqb-true _ _ (s .0), eqb-true _ _ (s .1), ltb-false mostEdges _ (w .1))
 
     pub turned-sizes : Sizes polygons sequences
     turned-sizes = record { same = sym (alike .0); few = alike .2 }

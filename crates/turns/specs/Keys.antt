@@ -8,6 +8,7 @@ use lib.Dec.{leb, ltb}
 use lib.ListN.{length, getD}
 use Rattle.laws.specs.Counting.{some-below, first}
 use Rattle.sheet.specs.TurnList.{NumberLists}
+use Rattle.sheet.specs.Amounts.{mostEdges}
 
 unfoldable pub keyOf : ℕ → ℕ → ℕ
 keyOf polygon sequence = polygon * 4294967296 + sequence
@@ -18,7 +19,7 @@ keyAt v e = keyOf (v .polygon e) (v .sequence e)
 -- a polygon list and a sequence list that pass 11
 pub record Sizes (polygons sequences : List ℕ) : Type 0 where
   pub same : length sequences ≡ length polygons
-  pub few : length polygons ≤ 4096
+  pub few : length polygons ≤ mostEdges
 
 -- the first n keys, none below the one before
 pub record Rising (keys : List ℕ) (n : ℕ) : Type 0 where

@@ -19,6 +19,7 @@ use Rattle.hartley.proofs.seams.Seams.{walk-path}
 use Rattle.hartley.proofs.seams.LongOutline.{iter, iter-add, Room}
 use Rattle.hartley.proofs.paths.RecordsCounted.{records, closes, listed, two-ways}
 use Rattle.hartley.proofs.invariant.TableTied.{Table, State}
+use Rattle.sheet.specs.Amounts.{mostEdges}
 
 pub count-every : (n : ℕ) → count (λ x. true) n ≡ n
 count-every n = count-all (λ x. true) n (λ x l. refl)
@@ -72,7 +73,7 @@ pow-grows (suc d) k = let e : suc d + k ≡ suc (d + k) = omega arith in rw e (o
 pub pow-le : (a b : ℕ) → a ≤ b → 2 ^ a ≤ 2 ^ b
 pow-le a b h = let e : (b - a) + a ≡ b = omega arith in rw e at (pow-grows (b - a) a)
 
-pub level-small : {sh : Plan} → Lawful sh → sh .list .edges ≤ 4096 → (l : ℕ) → Room sh l → l ≤ 12
+pub level-small : {sh : Plan} → Lawful sh → sh .list .edges ≤ mostEdges → (l : ℕ) → Room sh l → l ≤ 12
 level-small N few l r = ⊎-elim (λ h. let a = pow-le 13 l h in absurd (omega (arith, a, room-small N l r))) (λ h. omega arith) (lt-or-le 12 l)
 
 -- records at any moment

@@ -29,8 +29,9 @@ use Rattle.hartley.proofs.results.SweepEnded.{Finished, sweep-ends, whe
 use Rattle.hartley.proofs.results.GivesNumbering.{later-first, gives-numbering, sequence-natural, records-few}
 use Rattle.hartley.proofs.results.NumbersFit.{Fits, all-held}
 use Rattle.hartley.proofs.results.RowsEnough.{twelve-each, enough-rows}
+use Rattle.sheet.specs.Amounts.{mostEdges}
 
-module _ {sh : Drawing} (K : Checked sh) (few : sh .edges ≤ 4096) where
+module _ {sh : Drawing} (K : Checked sh) (few : sh .edges ≤ mostEdges) where
   -- with so many rows lent
   module _ (rows : ℕ) where
     abbrev A : Setting

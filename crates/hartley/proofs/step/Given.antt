@@ -19,12 +19,13 @@ use Rattle.hartley.proofs.paths.TableWritten.{put-at, put-off}
 use Rattle.hartley.proofs.paths.JournalRead.{recs, recs-older}
 use Rattle.hartley.proofs.step.OutlineClosed.{closing}
 use Rattle.hartley.proofs.step.BothPassedUp.{first}
+use Rattle.sheet.specs.Amounts.{mostEdges}
 
 -- a checked list, and the room lent
 pub record Setting : Type 0 where
   pub sheet : Drawing
   pub checked : Checked sheet
-  pub few : sheet .edges ≤ 4096
+  pub few : sheet .edges ≤ mostEdges
   pub rows : ℕ
   pub records : ℕ
   pub journal-long : 2 * sheet .edges ≤ records

@@ -8,6 +8,7 @@ use Rattle.laws.proofs.Sets.{stores-are-sets}
 use borrow.Author.Needs.{needs}
 use Rattle.journal.proofs.write.Statement.{statement}
 use Rattle.journal.proofs.write.Tie as tie
+use Rattle.steps.specs.Swept.{numbersPerRecord}
 
 slice-set-from-name : tie.Need-slice-set-from-name
 slice-set-from-name c = simp length-set (omega arith)
@@ -27,7 +28,7 @@ returns c =
       read-back (a .row) (c .fits .row .sfits),
       read-back (a .offset) (c .fits .offset .sfits),
     )
-    (stores-are-sets (a .journal .now) (4 * a .k) (a .level) (a .name ∷ a .row ∷ a .offset ∷ []))
+    (stores-are-sets (a .journal .now) (numbersPerRecord * a .k) (a .level) (a .name ∷ a .row ∷ a .offset ∷ []))
 
 pub write-spec : {M : Type 1} → statement M
 write-spec =

@@ -6,9 +6,10 @@ use lib.ListN.{length, length-set}
 use Rattle.laws.proofs.Zeros.{Zeroed, zeroed-none, zeroed-more, zeroed-all}
 use Rattle.journal.proofs.zero_from.Statement.{statement}
 use Rattle.journal.proofs.zero_from.Tie as tie
+use Rattle.steps.specs.Swept.{numbersPerRecord}
 
 abbrev Inv-loop : tie.InvT-loop
-Inv-loop journal₀ k i₀ journal i = Zeroed journal₀ (4 * k) journal i
+Inv-loop journal₀ k i₀ journal i = Zeroed journal₀ (numbersPerRecord * k) journal i
 
 abbrev μ-loop : tie.MeasureT-loop
 μ-loop journal₀ k i₀ journal i = length journal - i

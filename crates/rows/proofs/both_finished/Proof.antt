@@ -8,11 +8,12 @@ use lib.ListN.{getD}
 use borrow.Author.Needs.{needs}
 use Rattle.rows.proofs.both_finished.Statement.{statement}
 use Rattle.rows.proofs.both_finished.Tie as tie
+use Rattle.steps.specs.Swept.{numbersPerRow}
 
 returns : tie.Need-returns
 returns c =
     let a = c .before .before .before .args in
-    rw (both-is (a .rows .now) (a .r), tested _ (c .before .before .if12 .given) (c .before .if1 .taken)) (sym (tested (getD (a .rows .now) (8 * a .r + 6) (pos 0)) (c .result .given) refl))
+    rw (both-is (a .rows .now) (a .r), tested _ (c .before .before .if12 .given) (c .before .if1 .taken)) (sym (tested (getD (a .rows .now) (numbersPerRow * a .r + 6) (pos 0)) (c .result .given) refl))
 
 returns-2 : tie.Need-returns-2
 returns-2 c =

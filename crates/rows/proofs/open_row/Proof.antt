@@ -11,6 +11,7 @@ use Rattle.rows.proofs.Tips.{mark-is, mark-fits}
 use borrow.Author.Needs.{needs}
 use Rattle.rows.proofs.open_row.Statement.{statement}
 use Rattle.rows.proofs.open_row.Tie as tie
+use Rattle.steps.specs.Swept.{numbersPerRow}
 
 add-rows : tie.Need-add-rows
 add-rows c = mark-fits (c .before .before .args .level) (c .before .before .pre .1)
@@ -49,7 +50,7 @@ returns c =
       read-back (a .tip .x) (c .before .struct-told .given .0 .1),
       read-back (a .tip .y) (c .struct-told2 .given .1 .0 .1),
     )
-    (stores-are-sets (a .rows .now) (8 * a .r) (pos (a .level + 1)) (a .tip .x ∷ a .tip .y ∷ pos 0 ∷ a .tip .x ∷ a .tip .y ∷ pos 0 ∷ pos 0 ∷ []))
+    (stores-are-sets (a .rows .now) (numbersPerRow * a .r) (pos (a .level + 1)) (a .tip .x ∷ a .tip .y ∷ pos 0 ∷ a .tip .x ∷ a .tip .y ∷ pos 0 ∷ pos 0 ∷ []))
 
 pub open-row-spec : {M : Type 1} → statement M
 open-row-spec =

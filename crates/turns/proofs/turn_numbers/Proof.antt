@@ -7,11 +7,12 @@ use Rattle.turns.proofs.Answering.{numbers-without, numbers-again, numb
 use Rattle.turns.proofs.Accepting.{blank-new, ordered-turns, last-largest}
 use Rattle.turns.proofs.turn_numbers.Statement.{statement}
 use Rattle.turns.proofs.turn_numbers.Tie as tie
+use Rattle.sheet.specs.Amounts.{mostEdges}
 
 first-again-requires : tie.Need-first-again-requires
 first-again-requires c κs =
     let pre = c .before .before .before .before .before .before .before .before .before .pre in
-    (pre .0, (c .before .before .before .before .order-keys .ensures, blank-new _ 4096 (search needs)))
+    (pre .0, (c .before .before .before .before .order-keys .ensures, blank-new _ mostEdges (search needs)))
 
 returns : tie.Need-returns
 returns c = (numbers-without _ _ (c .before .before .before .before .before .before .before .first-without .ensures) (c .if1 .taken), refl)

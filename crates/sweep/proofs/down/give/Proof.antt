@@ -8,6 +8,7 @@ use lib.IntN.{pos}
 use Rattle.journal.specs.Layout.{fitting}
 use Rattle.sweep.proofs.down.give.Statement.{statement}
 use Rattle.sweep.proofs.down.give.Tie as tie
+use Rattle.steps.specs.Swept.{numbersPerRow}
 
 returns : tie.Need-returns
 returns c =
@@ -16,7 +17,7 @@ returns c =
     let c₆ = c₄ .before .before in
     let c₇ = c₆ .before in
     let g = c₇ .args in
-    let one : 8 * g .r + 1 ≡ suc (8 * g .r) = omega arith in
+    let one : numbersPerRow * g .r + 1 ≡ suc (numbersPerRow * g .r) = omega arith in
     rw (
       c₁ .put2 .ensures,
       c₄ .put .ensures,
