@@ -22,7 +22,7 @@ use Rattle.steps.specs.declared.End.{End}
 use Rattle.steps.specs.declared.End.the-variants.{Done, NoFreeRow, Overrun}
 use Rattle.steps.specs.Rows.{otherSide, on, Branch, Row, Chain, inRow, closing, Record, LevelEdge, Room}
 use Rattle.steps.specs.SweepUp as up
-use Rattle.steps.specs.SweepUp.{State, Sweep, hasTip, asEdge, bottom, top, sideOf, sideTest, longer, chainRecord, foundBelow, mostLength}
+use Rattle.steps.specs.SweepUp.{State, Sweep, hasTip, asEdge, bottom, top, sideOf, sideTest, longer, chainRecord, foundBelow, mostLength, levels}
 
 -- going on after two treatments that ended alike
 after-both : {A A′ : Type 0} (R : A → A′ → Type 0) {u u′ : End} → u ≡ u′ → {x y : A} {x′ y′ : A′} → R x x′ → (u ≡ Done → R y y′) → R (up.afterDone u x y) (up.afterDone u′ x′ y′)
@@ -72,7 +72,7 @@ SmallChain most (inRow r) = r ≤ most
 SmallChain most closing = 0 ≤ most
 
 pub record SmallRecord (most : ℕ) (entry : Record) : Type 0 where
-  pub level : entry .level ≤ 12
+  pub level : entry .level ≤ levels
   pub name : entry .name ≤ most
   pub chain : SmallChain most (entry .chain)
 
@@ -271,7 +271,7 @@ module _ {P T J P′ T′ J′ : Type 0} {room : Room P T J} {room′ : Room P�
   unfolding up.write
   write-reach s entry = refl
 
-  attach-alike : {k : ℕ} {s : State T J} {s′ : State T′ J′} → Alike 1 k s s′ → (level : ℕ) → level ≤ 12 → (side : Side) {e : LevelEdge P} {e′ : LevelEdge P′} → AlikeEdge R most e e′ → (r : ℕ) → r < s .reach → r ≤ s .records → Alike 0 k (up.attach room s level side e r) (up.attach room′ s′ level side e′ r)
+  attach-alike : {k : ℕ} {s : State T J} {s′ : State T′ J′} → Alike 1 k s s′ → (level : ℕ) → level ≤ levels → (side : Side) {e : LevelEdge P} {e′ : LevelEdge P′} → AlikeEdge R most e e′ → (r : ℕ) → r < s .reach → r ≤ s .records → Alike 0 k (up.attach room s level side e r) (up.attach room′ s′ level side e′ r)
   unfolding up.attach
   attach-alike {k} {s} {s′} A level lv side {e} {e′} h r rl rr =
       let a = M .look (A .rows) r rl in
@@ -282,7 +282,7 @@ module _ {P T J P′ T′ J′ : Type 0} {room : Room P T J} {room′ : Room P�
       move-alike (write-alike A b l (record { level = lv; name = h .small; chain = omega (arith, rr, l, M .names) })) r side (top-alike side h) n (omega (arith, rl, write-reach s (up.chainRecord room level side (up.look room s r) e r))))
       (λ q. overrun A)
 
-  close-alike : {k : ℕ} {s : State T J} {s′ : State T′ J′} → Alike 0 k s s′ → (level : ℕ) → level ≤ 12 → {e : LevelEdge P} {e′ : LevelEdge P′} → AlikeEdge R most e e′ → Alike 0 k (up.close room s level e) (up.close room′ s′ level e′)
+  close-alike : {k : ℕ} {s : State T J} {s′ : State T′ J′} → Alike 0 k s s′ → (level : ℕ) → level ≤ levels → {e : LevelEdge P} {e′ : LevelEdge P′} → AlikeEdge R most e e′ → Alike 0 k (up.close room s level e) (up.close room′ s′ level e′)
   unfolding up.close
   close-alike {k} {s} A level lv {e} h =
       pick-alike _ _ (λ i. ltb (A .records i) (M .records i))
@@ -362,7 +362,7 @@ module _ {P T J P′ T′ J′ : Type 0} {room : Room P T J} {room′ : Room P�
         pass-both-alike (finish-alike (finish-alike A q (otherSide side) (omega (arith, b .0, A .since))) r side (omega (arith, l, A .since))) done q r (b .0) (b .1) l m
 
     -- steps 2 to 4; attaching leaves no smaller reach
-    on-row-since : {s : State T J} {s′ : State T′ J′} → Alike 1 (s .reach) s s′ → (level : ℕ) → level ≤ 12 → (side : Side) {e : LevelEdge P} {e′ : LevelEdge P′} → AlikeEdge R most e e′ → (r : ℕ) → r < s .reach → r ≤ s .records → Alike 0 (up.attach room s level side e r .reach) (up.onRow room next s level side e r) (up.onRow room′ next′ s′ level side e′ r)
+    on-row-since : {s : State T J} {s′ : State T′ J′} → Alike 1 (s .reach) s s′ → (level : ℕ) → level ≤ levels → (side : Side) {e : LevelEdge P} {e′ : LevelEdge P′} → AlikeEdge R most e e′ → (r : ℕ) → r < s .reach → r ≤ s .records → Alike 0 (up.attach room s level side e r .reach) (up.onRow room next s level side e r) (up.onRow room′ next′ s′ level side e′ r)
     unfolding up.onRow
     on-row-since {s} {s′} A level lv side {e} {e′} h r l m =
         let B = attach-alike A level lv side h r l m in
@@ -370,7 +370,7 @@ module _ {P T J P′ T′ J′ : Type 0} {room : Room P T J} {room′ : Room P�
         let C : Alike 0 (up.attach room s level side e r .reach) (up.attach room s level side e r) (up.attach room′ s′ level side e′ r) = weaken (omega arith) B (omega arith) in
         after-alike C (λ done. rw (← f) (meet-alike C done side r (omega (arith, l, B .since)) (omega (arith, m, A .kept, M .names)) (up.meeting room (up.attach room s level side e r) level side e) (λ q u. found-small B done level side e q u)))
 
-    on-row-alike : {k : ℕ} {s : State T J} {s′ : State T′ J′} → Alike 1 k s s′ → (level : ℕ) → level ≤ 12 → (side : Side) {e : LevelEdge P} {e′ : LevelEdge P′} → AlikeEdge R most e e′ → (r : ℕ) → r < s .reach → r ≤ s .records → Alike 0 k (up.onRow room next s level side e r) (up.onRow room′ next′ s′ level side e′ r)
+    on-row-alike : {k : ℕ} {s : State T J} {s′ : State T′ J′} → Alike 1 k s s′ → (level : ℕ) → level ≤ levels → (side : Side) {e : LevelEdge P} {e′ : LevelEdge P′} → AlikeEdge R most e e′ → (r : ℕ) → r < s .reach → r ≤ s .records → Alike 0 k (up.onRow room next s level side e r) (up.onRow room′ next′ s′ level side e′ r)
     on-row-alike {k} {s} {s′} A level lv side h r l m =
         let A₁ : Alike 1 (s .reach) s s′ = weaken (omega arith) A (omega arith) in
         let B = attach-alike A₁ level lv side h r l m in
@@ -378,7 +378,7 @@ module _ {P T J P′ T′ J′ : Type 0} {room : Room P T J} {room′ : Room P�
         weaken (omega arith) C (omega (arith, A .since, B .since, C .since))
 
     -- step 1: the row found, or the lowest free one opened, or none
-    in-chain-alike : {k : ℕ} {s : State T J} {s′ : State T′ J′} → Alike 0 k s s′ → s .end ≡ Done → (level : ℕ) → level ≤ 12 → (side : Side) {e : LevelEdge P} {e′ : LevelEdge P′} → AlikeEdge R most e e′ → (f : Found) → ((q : ℕ) → f ≡ At q → q < s .reach) → Alike 0 k (up.inChain room next s level side e f) (up.inChain room′ next′ s′ level side e′ f)
+    in-chain-alike : {k : ℕ} {s : State T J} {s′ : State T′ J′} → Alike 0 k s s′ → s .end ≡ Done → (level : ℕ) → level ≤ levels → (side : Side) {e : LevelEdge P} {e′ : LevelEdge P′} → AlikeEdge R most e e′ → (f : Found) → ((q : ℕ) → f ≡ At q → q < s .reach) → Alike 0 k (up.inChain room next s level side e f) (up.inChain room′ next′ s′ level side e′ f)
     unfolding up.inChain
     in-chain-alike A done level lv side h (At r) g =
         let l = g r refl in
@@ -397,7 +397,7 @@ module _ {P T J P′ T′ J′ : Type 0} {room : Room P T J} {room′ : Room P�
         none : Alike 0 k (up.ended NoFreeRow s) (up.ended NoFreeRow s′)
         none = end-early NoFreeRow (λ x. let z : _≡_ {A = ℕ} 0 1 = cc in omega arith) A
 
-    steps-alike : {k : ℕ} {s : State T J} {s′ : State T′ J′} → Alike 0 k s s′ → s .end ≡ Done → (level : ℕ) → level ≤ 12 → (side : Side) {e : LevelEdge P} {e′ : LevelEdge P′} → AlikeEdge R most e e′ → Alike 0 k (up.stepsOn room next s level side e) (up.stepsOn room′ next′ s′ level side e′)
+    steps-alike : {k : ℕ} {s : State T J} {s′ : State T′ J′} → Alike 0 k s s′ → s .end ≡ Done → (level : ℕ) → level ≤ levels → (side : Side) {e : LevelEdge P} {e′ : LevelEdge P′} → AlikeEdge R most e e′ → Alike 0 k (up.stepsOn room next s level side e) (up.stepsOn room′ next′ s′ level side e′)
     unfolding up.stepsOn
     steps-alike {k} {s} A done level lv side {e} h =
         rw (← find-alike A level side (bottom-alike side h)) (in-chain-alike A done level lv side h (up.find room s level side (bottom side e)) (found-in-time s level side (bottom side e)))
@@ -406,7 +406,7 @@ module _ {P T J P′ T′ J′ : Type 0} {room : Room P T J} {room′ : Room P�
   side-alike h = λ i. sideTest (M .below (h .tail) (h .head) i)
 
   -- every treatment is alike, by the levels left
-  treat-alike : (left level : ℕ) → level + left ≤ 12 → (k : ℕ) (s : State T J) (s′ : State T′ J′) (e : LevelEdge P) (e′ : LevelEdge P′) → Alike 0 k s s′ → s .end ≡ Done → AlikeEdge R most e e′ → Alike 0 k (up.treat room left level s e) (up.treat room′ left level s′ e′)
+  treat-alike : (left level : ℕ) → level + left ≤ levels → (k : ℕ) (s : State T J) (s′ : State T′ J′) (e : LevelEdge P) (e′ : LevelEdge P′) → Alike 0 k s s′ → s .end ≡ Done → AlikeEdge R most e e′ → Alike 0 k (up.treat room left level s e) (up.treat room′ left level s′ e′)
   unfolding up.treat
   treat-alike zero level l k s s′ e e′ A done h =
       pick-alike _ _ (M .same (h .tail) (h .head)) (λ q. close-alike A level (omega arith) h) (λ q. overrun A)
@@ -424,4 +424,4 @@ module _ {P T J P′ T′ J′ : Type 0} {room : Room P T J} {room′ : Room P�
   sweep-alike list list′ zero h A = record { state = A; edge = refl }
   sweep-alike list list′ (suc n) h {s} {s′} A =
       let B = sweep-alike list list′ n (λ i l. h i (omega arith)) A in
-      after-both AlikeSweep (B .state .end) B (λ done. record { state = treat-alike 12 0 (omega arith) 0 _ _ _ _ (B .state) done (h n (omega arith)); edge = refl })
+      after-both AlikeSweep (B .state .end) B (λ done. record { state = treat-alike levels 0 (omega arith) 0 _ _ _ _ (B .state) done (h n (omega arith)); edge = refl })

@@ -189,7 +189,7 @@ module _ (A : Setting) where
   other-edge d e = d (cc)
 
   treated : (i : ℕ) (h : i < A .sheet .edges) (s : Work) (B : Naming) (G : Paths) → Before i h s B G → Result i h (treat (roomIn A) levels 0 s (edgeOf (A .sheet) i))
-  treated i h s B G Q = by (treat-outcome A (time N i h) 12 0 refl s (edgeOf (A .sheet) i) B G (Q .inv) (pre-edge i h s B G Q) (Q .clean) (omega (arith, Q .listed-is)))
+  treated i h s B G Q = by (treat-outcome A (time N i h) levels 0 refl s (edgeOf (A .sheet) i) B G (Q .inv) (pre-edge i h s B G Q) (Q .clean) (omega (arith, Q .listed-is)))
     where
       s′ : Work
       s′ = treat (roomIn A) levels 0 s (edgeOf (A .sheet) i)
