@@ -16,17 +16,17 @@ use Rattle.sheet.specs.declared.Refusal.{Refusal}
 use Rattle.sheet.specs.declared.Refusal.the-variants.{NoRow}
 use Rattle.sheet.specs.declared.Check.{Check}
 use Rattle.sheet.specs.declared.Check.the-variants as check
-use Rattle.sheet.specs.Edges.{edgeAt, edgesIn}
+use Rattle.sheet.specs.Edges.{edgesIn}
 use Rattle.sheet.specs.Answers.{Call, checked, answered, numberOf, zeros}
 use Rattle.checks.proofs.AnswerSheet.{Row, row-1, row-2, row-3, row-4, row-5, row-6, row-7, row-8, row-9, no-row, row}
 use Rattle.steps.specs.declared.End.{End}
 use Rattle.steps.specs.declared.End.the-variants.{Done, NoFreeRow, Overrun}
-use Rattle.steps.specs.SweepUp.{listEdge, start}
+use Rattle.steps.specs.SweepUp.{start}
 use Rattle.steps.specs.SweepDown.{sweepDown}
 use Rattle.steps.proofs.Bounded.{Within, sweep-within, edge-within, polygons-within}
 use Rattle.journal.specs.Layout.{recordSlice}
 use Rattle.sweep.specs.declared.Swept.{Swept}
-use Rattle.sweep.specs.Slices.{room, lentRoom, swept, isDone}
+use Rattle.sweep.specs.Slices.{room, lentRoom, swept, isDone, listEdges}
 use Rattle.sweep.specs.Lookup.{tables, reading}
 use Rattle.numbering.specs.Outcome.{Lent, leaving, callOf, up, endingBy, leaves, outcome}
 use Rattle.numbering.specs.OnSlices.{sweptUp, readDown, afterSweep, sweeps, inJournal, wholeJournal, sweepsOn}
@@ -53,7 +53,7 @@ module _ (l : Lent) (few : edgesIn (l .list) ≤ mostEdges) (eight : length (l .
 
   pub edge-fits : sweptUp l .edge ≤ mostEdges
   unfolding sweptUp
-  edge-fits = omega (arith, edge-within (lentRoom (l .rows) (l .journal)) (λ i. listEdge i (edgeAt (l .list) i .tail) (edgeAt (l .list) i .head)) (start 0 (l .rows) (l .journal)) (edgesIn (l .list)))
+  edge-fits = omega (arith, edge-within (lentRoom (l .rows) (l .journal)) (listEdges (l .list)) (start 0 (l .rows) (l .journal)) (edgesIn (l .list)))
 
 -- the state after the sweep up, as the code has it
 module _ (l : Lent) {rows₁ journal₁ : List ℤ} {w : Swept} (E : swept rows₁ journal₁ w ≡ sweptUp l) (same-journal : length journal₁ ≡ length (l .journal)) where

@@ -150,7 +150,6 @@ matched list n m m′ most e l u =
     record {
       same = λ h k. rank-same _ _ (h .inside) (k .inside) ∙ λ i. eqb (h .is-rank i) (k .is-rank i);
       below = λ h k. rank-below _ _ (h .inside) (k .inside) ∙ λ i. ltb (h .is-rank i) (k .is-rank i);
-      apart = λ h. refl;
       look = λ H r v. H .row r v;
       unopened = λ H r v w. H .free r v w;
       opened = λ H h r level l v. opened-holds H r level l v h;

@@ -13,7 +13,7 @@ use Rattle.laws.proofs.Listing.{listed-is, list-is}
 use Rattle.sheet.specs.declared.Answer.the-variants.{Accepted, Refused}
 use Rattle.sheet.specs.declared.Check.the-variants.{Passed}
 use Rattle.sheet.specs.declared.Refusal.the-variants.{NoRow}
-use Rattle.sheet.specs.Edges.{Drawing, edgeAt, edgesIn, drawingOf}
+use Rattle.sheet.specs.Edges.{Drawing, edgesIn, drawingOf, apartAt}
 use Rattle.sheet.specs.Numbering.{Numbering}
 use Rattle.sheet.specs.Answers.{checked, answered, followedByZeros}
 use Rattle.sheet.proofs.OneNumbering.{same-polygon, same-sequence, same-polygons}
@@ -21,14 +21,14 @@ use Rattle.checks.proofs.Passed.{AllPassed, passed}
 use Rattle.steps.specs.declared.End.{End}
 use Rattle.steps.specs.declared.End.the-variants.{Done, NoFreeRow}
 use Rattle.steps.specs.Rows.{Record, recordNumbers}
-use Rattle.steps.specs.SweepUp.{Sweep, listEdge, start}
+use Rattle.steps.specs.SweepUp.{Sweep, start}
 use Rattle.steps.specs.SweepDown.{naturalPart, Pair, Reading}
 use Rattle.steps.specs.Plain.{plainTables, plainJournal}
 use Rattle.steps.specs.Swept.{rowsIn, plainRoom, edgeOf, freeRows, noRecords, noPairs, sweptTo, readDown, numbersPerRecord}
 use Rattle.steps.proofs.Alike.{Match, Alike, AlikeSweep, start-alike, sweep-alike}
 use Rattle.steps.proofs.AlikeDown.{MatchDown, AlikeReading, down-alike}
 use Rattle.journal.specs.Layout.{recordSlice, recordsIn}
-use Rattle.sweep.specs.Slices.{room}
+use Rattle.sweep.specs.Slices.{room, listEdges}
 use Rattle.sweep.specs.Lookup.{numbersIn, tables, reading}
 use Rattle.hartley.proofs.results.Results as results
 use Rattle.numbering.specs.Outcome.{Lent, Left, callOf, leaving, up, down, endingBy, leaves, outcome}
@@ -103,10 +103,10 @@ module _ (l : Lent) (ok : checked (callOf l) ≡ Passed) where
       (record { long = omega arith; entry = λ i h. absurd (omega arith); number = λ i q h u. absurd (omega arith) })
 
   alike : AlikeSweep M (slices.sweptUp (inJournal l)) (up l)
-  unfolding slices.sweptUp up room sweptTo drawingOf
+  unfolding slices.sweptUp up room sweptTo drawingOf apartAt
   alike =
-      sweep-alike M (λ i. listEdge i (edgeAt (l .list) i .tail) (edgeAt (l .list) i .head)) (edgeOf sheet) edges
-      (λ i h. record { name = refl; small = omega (arith, h, all .few); tail = record { inside = all .tails-in-range i h; is-rank = refl }; head = record { inside = all .heads-in-range i h; is-rank = refl }; length = refl })
+      sweep-alike M (listEdges (l .list)) (edgeOf sheet) edges
+      (λ i h. record { name = refl; small = omega (arith, h, all .few); tail = record { inside = all .tails-in-range i h; is-rank = refl }; head = record { inside = all .heads-in-range i h; is-rank = refl }; length = refl; apart = refl })
       same-start
 
   -- the theory's run is this one

@@ -7,14 +7,14 @@ use lib.ListN.{length, take}
 use Rattle.sheet.specs.declared.Answer.the-variants as answer
 use Rattle.sheet.specs.declared.Refusal.{Refusal}
 use Rattle.sheet.specs.declared.Refusal.the-variants.{NoRow}
-use Rattle.sheet.specs.Edges.{edgeAt, edgesIn}
+use Rattle.sheet.specs.Edges.{edgesIn}
 use Rattle.sheet.specs.Answers.{zeros, afterRefusal, followedByZeros}
 use Rattle.steps.specs.declared.End.{End}
 use Rattle.steps.specs.declared.End.the-variants.{Done, NoFreeRow, Overrun}
-use Rattle.steps.specs.SweepUp.{Sweep, sweepUp, listEdge, start}
+use Rattle.steps.specs.SweepUp.{Sweep, sweepUp, start}
 use Rattle.steps.specs.SweepDown.{Reading, sweepDown}
 use Rattle.journal.specs.Layout.{recordSlice}
-use Rattle.sweep.specs.Slices.{lentRoom}
+use Rattle.sweep.specs.Slices.{lentRoom, listEdges}
 use Rattle.sweep.specs.Lookup.{Answers, tables, reading}
 use Rattle.numbering.specs.Outcome.{Lent, Left}
 use Rattle.sheet.specs.Amounts.{journalNumbersPerEdge}
@@ -22,7 +22,7 @@ use Rattle.steps.specs.Swept.{numbersPerRecord}
 
 unfoldable pub sweptUp : Lent → Sweep (List ℤ) (List ℤ)
 sweptUp l =
-    sweepUp (lentRoom (l .rows) (l .journal)) (λ i. listEdge i (edgeAt (l .list) i .tail) (edgeAt (l .list) i .head)) (start 0 (l .rows) (l .journal)) (edgesIn (l .list))
+    sweepUp (lentRoom (l .rows) (l .journal)) (listEdges (l .list)) (start 0 (l .rows) (l .journal)) (edgesIn (l .list))
 
 -- the records read down, with the rows' slice as look-up table
 unfoldable pub readDown : Lent → Sweep (List ℤ) (List ℤ) → Reading (List ℤ) Answers

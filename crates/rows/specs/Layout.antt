@@ -16,9 +16,9 @@ use Rattle.steps.specs.declared.Side.the-variants.{Rising, Falling}
 use Rattle.steps.specs.Rows.{Branch, Row, Places, Table}
 use Rattle.steps.specs.Swept.{numbersPerRow}
 
--- points compare as points do, and none is apart
+-- points compare as points do
 unfoldable pub pointPlaces : Places Point
-pointPlaces = record { same = isSame; below = isBelow; apart = λ p. false }
+pointPlaces = record { same = isSame; below = isBelow }
 
 -- that a slice has row r
 abbrev pub HasRow : List ℤ → ℕ → Type 0

@@ -4,6 +4,7 @@ use mathlib.Core.Bool.{Bool, false}
 use mathlib.Core.List.{List}
 use lib.IntN.{ℤ, pos}
 use lib.ListN.{getD, length}
+use Rattle.sheet.specs.declared.Point.{Point}
 use Rattle.sheet.specs.declared.Edge.{Edge}
 use Rattle.sheet.specs.Rank.{rank}
 use Rattle.sheet.specs.Amounts.{numbersPerEdge}
@@ -40,6 +41,10 @@ drawingOf s =
       film = λ p. 0;
       apart = λ p. false;
     }
+
+-- which points of a list are apart
+unfoldable pub apartAt : List ℤ → Point → Bool
+apartAt s p = drawingOf s .apart (rank p)
 
 -- how high an edge's top and bottom lie
 abbrev pub topHeight : Drawing → ℕ → ℕ

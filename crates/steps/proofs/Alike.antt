@@ -65,6 +65,7 @@ module _ {P P′ : Type 0} (R : P → P′ → Type 0) where
     pub tail : R (e .tail) (e′ .tail)
     pub head : R (e .head) (e′ .head)
     pub length : e .length ≡ e′ .length
+    pub apart : e .apart ≡ e′ .apart
 
 -- a record whose numbers are small
 abbrev pub SmallChain : ℕ → Chain → Type 0
@@ -81,7 +82,6 @@ pub record SmallRecord (most : ℕ) (entry : Record) : Type 0 where
 pub record Match {P T J P′ T′ J′ : Type 0} (room : Room P T J) (room′ : Room P′ T′ J′) (R : P → P′ → Type 0) (Rows : ℕ → T → T′ → Type 0) (Kept : ℕ → J → J′ → Type 0) (most looked : ℕ) : Type 0 where
   pub same : {p q : P} {p′ q′ : P′} → R p p′ → R q q′ → room .places .same p q ≡ room′ .places .same p′ q′
   pub below : {p q : P} {p′ q′ : P′} → R p p′ → R q q′ → room .places .below p q ≡ room′ .places .below p′ q′
-  pub apart : {p : P} {p′ : P′} → R p p′ → room .places .apart p ≡ room′ .places .apart p′
   pub look : {k : ℕ} {t : T} {t′ : T′} → Rows k t t′ → (r : ℕ) → r < k → AlikeRow R (room .table .look t r) (room′ .table .look t′ r)
   pub unopened : {k : ℕ} {t : T} {t′ : T′} → Rows k t t′ → (r : ℕ) → k ≤ r → r < looked → room′ .table .look t′ r .used ≡ false
   pub opened : {k : ℕ} {t : T} {t′ : T′} {p : P} {p′ : P′} → Rows k t t′ → R p p′ → (r level : ℕ) → r ≤ k → r < room .rows → Rows (max k (r + 1)) (room .table .opened t r level p) (room′ .table .opened t′ r level p′)
@@ -292,7 +292,7 @@ module _ {P T J P′ T′ J′ : Type 0} {room : Room P T J} {room′ : Room P�
   -- step 4
   meeting-alike : {k : ℕ} {s : State T J} {s′ : State T′ J′} → Alike 0 k s s′ → (level : ℕ) (side : Side) {e : LevelEdge P} {e′ : LevelEdge P′} → AlikeEdge R most e e′ → up.meeting room s level side e ≡ up.meeting room′ s′ level side e′
   unfolding up.meeting
-  meeting-alike A level side h = λ i. up.pickMeeting room (M .apart (top-alike side h) i) (find-alike A level (otherSide side) (top-alike side h) i)
+  meeting-alike A level side h = λ i. up.pickMeeting (h .apart i) (find-alike A level (otherSide side) (top-alike side h) i)
 
   finish-alike : {k : ℕ} {s : State T J} {s′ : State T′ J′} → Alike 0 k s s′ → (r : ℕ) (side : Side) → r < s .reach → Alike 0 k (up.finish room s r side) (up.finish room′ s′ r side)
   unfolding up.finish
@@ -320,10 +320,10 @@ module _ {P T J P′ T′ J′ : Type 0} {room : Room P T J} {room′ : Room P�
   found-in-time s level side p q h = found-below _ (s .reach) q h
 
   found-small : {k : ℕ} {s : State T J} {s′ : State T′ J′} → Alike 0 k s s′ → s .end ≡ Done → (level : ℕ) (side : Side) (e : LevelEdge P) (q : ℕ) → up.meeting room s level side e ≡ At q → (q < s .reach) × (q ≤ most)
-  unfolding up.meeting up.find
-  found-small {k} {s} A done level side e q h = by (room .places .apart (top side e)) h
+  unfolding up.meeting up.pickMeeting up.find
+  found-small {k} {s} A done level side e q h = by (e .apart) h
     where
-      by : (t : Bool) → up.pickMeeting room t (foundBelow (λ r. hasTip (room .places) level (otherSide side) (top side e) (up.look room s r)) (s .reach)) ≡ At q → (q < s .reach) × (q ≤ most)
+      by : (t : Bool) → up.pickMeeting t (foundBelow (λ r. hasTip (room .places) level (otherSide side) (top side e) (up.look room s r)) (s .reach)) ≡ At q → (q < s .reach) × (q ≤ most)
       by true u = let z : _≡_ {A = ℕ} 0 1 = cc in absurd (omega arith)
       by false u = let l = found-below _ (s .reach) q u in (l, omega (arith, l, A .little done, A .kept, M .names))
 
@@ -336,6 +336,7 @@ module _ {P T J P′ T′ J′ : Type 0} {room : Room P T J} {room′ : Room P�
         tail = a .branch Falling .tip;
         head = a .branch Rising .tip;
         length = λ i. record { rising = a .branch Rising .length i; falling = a .branch Falling .length i };
+        apart = refl;
       }
 
   -- the next level is treated alike

@@ -22,7 +22,6 @@ self room most names =
     record {
       same = λ h k. λ i. room .places .same (h i) (k i);
       below = λ h k. λ i. room .places .below (h i) (k i);
-      apart = λ h. λ i. room .places .apart (h i);
       look = λ {k} {t} h r l. rw (← h) (row-self (room .table .look t r));
       unopened = λ h r l m. absurd (omega arith);
       opened = λ h e r level l m. λ i. room .table .opened (h i) r level (e i);
@@ -46,7 +45,7 @@ abbrev pub mostName : {P T J : Type 0} → Room P T J → (ℕ → LevelEdge P) 
 mostName room list n = room .records + largest (λ i. list i .name) n
 
 pub same-edges : {P T J : Type 0} (room : Room P T J) (list : ℕ → LevelEdge P) (n i : ℕ) → i < n → AlikeEdge (λ p q. p ≡ q) (mostName room list n) (list i) (list i)
-same-edges room list n i l = record { name = refl; small = omega (arith, largest-bound (λ k. list k .name) n i l); tail = refl; head = refl; length = refl }
+same-edges room list n i l = record { name = refl; small = omega (arith, largest-bound (λ k. list k .name) n i l); tail = refl; head = refl; length = refl; apart = refl }
 
 pub sweep-within : {P T J : Type 0} (room : Room P T J) (list : ℕ → LevelEdge P) (n : ℕ) (t : T) (j : J) → Within room (sweepUp room list (start 0 t j) n .state)
 sweep-within room list n t j =

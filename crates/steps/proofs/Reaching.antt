@@ -40,7 +40,6 @@ module _ {P : Type 0} (places : Places P) (rows records : ℕ) where
       record {
         same = S .same;
         below = S .below;
-        apart = S .apart;
         look = λ F r l. S .look (F .same) r l;
         unopened = λ F r l m. F .free r l m;
         opened = λ {p′ = p′} F e r level l m. record { same = S .opened (F .same) e r level l m; free = still-free F r (newRow level p′) (omega arith) (omega arith) };

@@ -111,6 +111,7 @@ unfolding
     up.move
     up.attach
     up.close
+    up.pickMeeting
     up.meeting
     up.finish
     up.free

@@ -55,18 +55,18 @@ chainNumber closing = negsuc 0
 abbrev pub recordNumbers : Record → List ℤ
 recordNumbers e = pos (e .level) ∷ pos (e .name) ∷ chainNumber (e .chain) ∷ e .offset ∷ []
 
--- an edge of any level: its name, its ends, and its lengths (1 rising and 0 falling for an edge of the list)
+-- an edge of any level: its name, its ends, its lengths (1 rising and 0 falling for an edge of the list), and whether the place of its top is apart
 pub record LevelEdge (P : Type 0) : Type 0 where
   pub name : ℕ
   pub tail : P
   pub head : P
   pub length : Both ℕ
+  pub apart : Bool
 
--- how places compare, and which are apart
+-- how places compare
 pub record Places (P : Type 0) : Type 0 where
   pub same : P → P → Bool
   pub below : P → P → Bool
-  pub apart : P → Bool
 
 -- a table of rows: what stands in a row, and the four things that are done to one
 pub record Table (P T : Type 0) : Type 0 where

@@ -2,7 +2,7 @@
 -- once, over the side. Rows are looked for within the reach: all the rows there are, as 01 has it, or as far as rows have been opened, which comes to the
 -- same (proofs/Reaching.antt).
 use Prim.Native.Nat.{ℕ, zero, suc, _+_, max}
-use mathlib.Core.Bool.{Bool, true, false, not, _&&_}
+use mathlib.Core.Bool.{Bool, true, false, cond, not, _&&_}
 use lib.Dec.{eqb, ltb, leb}
 use lib.IntN.{ℤ, pos, negℤ}
 use Rattle.laws.specs.Counting.{count, first}
@@ -62,6 +62,11 @@ pickFound false r = Nothing
 unfoldable pub foundBelow : (ℕ → Bool) → ℕ → Found
 foundBelow test n = pickFound (ltb (first test n) n) (first test n)
 
+-- nothing where the test holds, otherwise what is found
+unfoldable pub pickMeeting : Bool → Found → Found
+pickMeeting true f = Nothing
+pickMeeting false f = f
+
 -- an offset's sign: 0 or more on a rising branch, below 0 on a falling one
 abbrev pub signed : Side → ℕ → ℤ
 signed Rising n = pos n
@@ -92,7 +97,7 @@ module _ {P : Type 0} where
   abbrev pub bothFinished : Row P → Bool
   bothFinished row = row .branch .rising .finished && row .branch .falling .finished
 
-  -- a finished row as an edge: tail at the falling tip, head at the rising tip, with the row's lengths and name
+  -- a finished row as an edge: tail at the falling tip, head at the rising tip, with the row's lengths and name. No branch is finished at a place that is apart.
   unfoldable pub asEdge : ℕ → Row P → LevelEdge P
   asEdge r row =
       record {
@@ -100,6 +105,7 @@ module _ {P : Type 0} where
         tail = row .branch .falling .tip;
         head = row .branch .rising .tip;
         length = record { rising = row .branch .rising .length; falling = row .branch .falling .length };
+        apart = false;
       }
 
 module _ {P T J : Type 0} (room : Room P T J) where
@@ -168,13 +174,9 @@ module _ {P T J : Type 0} (room : Room P T J) where
       (write s (record { level = level; name = e .name; chain = closing; offset = pos (e .length .falling) }))
       (ended Overrun s)
 
-  -- step 4: the row whose other branch has its tip at the edge's top; at a place that is apart there is none
-  abbrev pub pickMeeting : Bool → Found → Found
-  pickMeeting true f = Nothing
-  pickMeeting false f = f
-
+  -- step 4: the row whose other branch has its tip at the edge's top; where that place is apart there is none
   unfoldable pub meeting : State T J → ℕ → Side → LevelEdge P → Found
-  meeting s level side e = pickMeeting (room .places .apart (top side e)) (find s level (otherSide side) (top side e))
+  meeting s level side e = pickMeeting (e .apart) (find s level (otherSide side) (top side e))
 
   unfoldable pub finish : State T J → ℕ → Side → State T J
   finish s r side = withRows (room .table .finished (s .rows) r side) s
@@ -234,9 +236,10 @@ module _ {P T J : Type 0} (room : Room P T J) where
   sweepUp list s (suc i) =
       nextEdge (sweepUp list s i .state .end) (sweepUp list s i) (treat levels 0 (sweepUp list s i .state) (list i)) i
 
--- an edge of the list at level 0: falling length 0, rising length 1
-abbrev pub listEdge : {P : Type 0} → ℕ → P → P → LevelEdge P
-listEdge i tail head = record { name = i; tail = tail; head = head; length = record { rising = 1; falling = 0 } }
+-- an edge of the list at level 0: falling length 0, rising length 1; which places are apart is a matter of the list
+abbrev pub listEdge : {P : Type 0} → Places P → (P → Bool) → ℕ → P → P → LevelEdge P
+listEdge places apart i tail head =
+    record { name = i; tail = tail; head = head; length = record { rising = 1; falling = 0 }; apart = apart (cond (places .below tail head) head tail) }
 
 -- before the first edge nothing is written and no row was ever open; rows are looked for as far as said
 abbrev pub start : {T J : Type 0} → ℕ → T → J → State T J

@@ -14,14 +14,14 @@ use Rattle.steps.specs.SweepDown.{Pair, Reading, sweepDown}
 use Rattle.steps.specs.Plain.{newRow, freeRow, plainTable, plainJournal, plainTables}
 
 abbrev pub placesOf : Drawing → Places ℕ
-placesOf sh = record { same = eqb; below = λ p q. ltb (sh .height p) (sh .height q); apart = sh .apart }
+placesOf sh = record { same = eqb; below = λ p q. ltb (sh .height p) (sh .height q) }
 
 abbrev pub plainRoom : Drawing → ℕ → ℕ → Room ℕ (ℕ → Row ℕ) (ℕ → Record)
 plainRoom sh rows records = record { places = placesOf sh; table = plainTable; journal = plainJournal; rows = rows; records = records }
 
 -- the drawing's edges at level 0
 abbrev pub edgeOf : Drawing → ℕ → LevelEdge ℕ
-edgeOf sh i = listEdge i (sh .tail i) (sh .head i)
+edgeOf sh i = listEdge (placesOf sh) (sh .apart) i (sh .tail i) (sh .head i)
 
 -- the numbers of a row and of a record in the slices lent
 abbrev pub numbersPerRow : ℕ

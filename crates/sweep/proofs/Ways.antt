@@ -20,7 +20,8 @@ use Rattle.steps.specs.Rows.{otherSide, LevelEdge}
 use Rattle.steps.specs.SweepUp as up
 use Rattle.steps.specs.SweepUp.{State, foundBelow, hasTip, bothFinished}
 use Rattle.rows.specs.Layout as rows
-use Rattle.rows.specs.Layout.{pointPlaces, lookRow, finishedIn, freedIn}
+use Rattle.rows.specs.Layout.{pointPlaces, HasRow, lookRow, finishedIn, freedIn}
+use Rattle.rows.proofs.Searching.{found-there}
 use Rattle.steps.specs.Swept.{rowsIn}
 use Rattle.sweep.specs.declared.Progress.{Progress}
 use Rattle.sweep.specs.declared.NamedEdge.{NamedEdge}
@@ -64,6 +65,15 @@ module _ (a b : List ℤ) (left level : ℕ) (s : Progress) (q r : ℕ) {a₁ b�
     unfolding up.passBoth
     both-passed d la lb j = rw (ne-eqb q r n, ← i) ((rw (same-room a b a₁ b₁ la lb) at j) ∙ sym (goes-on _ _ (p .end) d))
 
+-- a row met is a row found
+picked-at : (t : Bool) (f : Found) {q : ℕ} → up.pickMeeting t f ≡ At q → f ≡ At q
+unfolding up.pickMeeting
+picked-at true f h = let z : _≡_ {A = ℕ} 0 1 = cc in absurd (omega arith)
+picked-at false f h = h
+
+pub met-there : (a : List ℤ) (level : ℕ) (side : Side) (p : Point) (peak : ℕ) (t : Bool) {f : Found} {q : ℕ} → f ≡ up.pickMeeting t (foundBelow (λ k. hasTip pointPlaces level side p (lookRow a k)) peak) → f ≡ At q → HasRow a q
+met-there a level side p peak t {f} {q} e n = found-there a level side p peak q (picked-at t (foundBelow (λ k. hasTip pointPlaces level side p (lookRow a k)) peak) (sym e ∙ n))
+
 -- steps 2 to 4 on a row
 module _ (a b : List ℤ) (left level : ℕ) (s : Progress) (above : ℕ) (side : Side) (e : NamedEdge) (r : ℕ) {a₁ b₁ : List ℤ} {p : Progress}
     (i : state a₁ b₁ p ≡ up.attach (lentRoom a b) (state a b s) level side (edgeOf e) r) where
@@ -72,7 +82,7 @@ module _ (a b : List ℤ) (left level : ℕ) (s : Progress) (above : ℕ) (side 
   row-stopped d = rw (← i) (sym (stops _ _ (p .end) d))
 
   module _ (d : isDone (p .end) ≡ true) {other : Side} {top : Point} {f : Found} (os : other ≡ otherSide side) (ot : top ≡ up.bottom other (edgeOf e))
-      (of : f ≡ foundBelow (λ k. hasTip pointPlaces level other top (lookRow a₁ k)) (p .peak)) where
+      (of : f ≡ up.pickMeeting (e .apart) (foundBelow (λ k. hasTip pointPlaces level other top (lookRow a₁ k)) (p .peak))) where
     met : up.meeting (lentRoom a b) (state a₁ b₁ p) level side (edgeOf e) ≡ f
     unfolding up.meeting up.find room rows.rowSlice pointPlaces
     met = rw (of, ot, os)

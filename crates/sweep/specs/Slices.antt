@@ -5,7 +5,7 @@ use mathlib.Core.Bool.{Bool, true, false}
 use mathlib.Core.List.{List}
 use lib.IntN.{ℤ}
 use Rattle.sheet.specs.declared.Point.{Point}
-use Rattle.sheet.specs.Edges.{edgeAt}
+use Rattle.sheet.specs.Edges.{edgeAt, apartAt}
 use Rattle.steps.specs.declared.End.{End}
 use Rattle.steps.specs.declared.End.the-variants.{Done, NoFreeRow, Overrun}
 use Rattle.steps.specs.Rows.{LevelEdge, Room}
@@ -32,11 +32,11 @@ abbrev pub state : List ℤ → List ℤ → Progress → State (List ℤ) (List
 state a b s = record { rows = a; journal = b; records = s .records; reach = s .peak; peak = s .peak; end = s .end }
 
 abbrev pub edgeOf : NamedEdge → LevelEdge Point
-edgeOf e = record { name = e .name; tail = e .tail; head = e .head; length = record { rising = e .rising; falling = e .falling } }
+edgeOf e = record { name = e .name; tail = e .tail; head = e .head; length = record { rising = e .rising; falling = e .falling }; apart = e .apart }
 
 -- the edges of a list at level 0
 abbrev pub listEdges : List ℤ → ℕ → LevelEdge Point
-listEdges s i = listEdge i (edgeAt s i .tail) (edgeAt s i .head)
+listEdges s i = listEdge pointPlaces (apartAt s) i (edgeAt s i .tail) (edgeAt s i .head)
 
 abbrev pub isDone : End → Bool
 isDone Done = true

@@ -71,13 +71,14 @@ impl Progress {
     }
 }
 
-// An edge of any level: its name, its ends and its two lengths.
+// An edge of any level: its name, its ends, its two lengths, and whether its top is apart.
 struct NamedEdge {
     name: usize,
     tail: Point,
     head: Point,
     rising: u32,
     falling: u32,
+    apart: bool,
 }
 
 impl NamedEdge {

@@ -11,7 +11,7 @@ ghost use mathlib.Core.List.{List};
 ghost use Prim.Native.Nat.{_+_, _-_, _<_};
 ghost use lib.IntN.{ℤ};
 ghost use Rattle.steps.specs.SweepUp as up;
-ghost use Rattle.rows.specs.Layout.{HasRow, lookRow};
+ghost use Rattle.rows.specs.Layout.{pointPlaces, HasRow, lookRow};
 ghost use Rattle.rows.specs.Marks.{Marked};
 ghost use Rattle.sweep.specs.Slices.{lentRoom, state, edgeOf};
 ghost use Rattle.steps.specs.SweepUp.{levels};
@@ -114,7 +114,27 @@ fn as_edge(rows: &[i32], r: usize) -> NamedEdge
         head,
         rising,
         falling,
+        apart: false,
     }
+}
+
+// Step 4's search: the row whose branch on the side has its tip at the place; none where the place is apart.
+fn meeting(
+    rows: &[i32],
+    marks: &[u8],
+    peak: usize,
+    level: u32,
+    side: Side,
+    tip: Point,
+    apart: bool,
+) -> Found
+    requires { ⌜ (level < 2147483647) × Marked (now marks) (now rows) peak ⌝ }
+    ensures { λ f. ⌜ f ≡ up.pickMeeting apart (up.foundBelow (λ r. up.hasTip pointPlaces level side tip (lookRow (now (rows .entry)) r)) peak) ⌝ }
+{
+    if apart {
+        return Found::Nothing;
+    }
+    rows::find(rows, marks, peak, level, side, tip)
 }
 
 // An edge of a level with so many levels left above it. Equal ends close an outline; any other edge goes into the row found, or a free one.
@@ -177,7 +197,7 @@ fn on_row(
     let other = side.other();
     let top = e.bottom(other);
     let peak = t.peak;
-    let Found::At(q) = rows::find(rows, marks, peak, level, other, top) else {
+    let Found::At(q) = meeting(rows, marks, peak, level, other, top, e.apart) else {
         return t;
     };
     rows::finish(rows, q, other);

@@ -16,7 +16,7 @@ ghost use Rattle.steps.specs.Swept.{numbersPerRecord};
 // The levels that an edge of the list has above it.
 const LEVELS: u32 = 12;
 
-// An edge of the list, named by its place: rising length 1, falling length 0.
+// An edge of the list, named by its place: rising length 1, falling length 0. No place of a list is apart.
 fn list_edge(edges: &[i32], i: usize) -> NamedEdge
     requires { ⌜ numbersPerEdge * i + 3 < length (now edges) ⌝ }
     ensures { λ e. ⌜ (edgeOf e ≡ listEdges (now (edges .entry)) i) × (e .falling ≡ 0) ⌝ }
@@ -30,6 +30,7 @@ fn list_edge(edges: &[i32], i: usize) -> NamedEdge
         head,
         rising: 1,
         falling: 0,
+        apart: false,
     }
 }
 

@@ -2,11 +2,12 @@
 -- from it on still by themselves; treating it keeps that (EdgeTreated), and the next top is no lower. So the sweep ends done, or without a free row at
 -- an edge where one row more than are lent would be in use. It never ends in an overrun.
 use mathlib.Core.Path.{_≡_, refl, ap, _∙_}
-use mathlib.Core.Bool.{false}
+use mathlib.Core.Bool.{false, cond}
 use mathlib.Core.List.{List, []}
 use mathlib.Core.Logic.{_⊎_, inl, inr, ⊎-elim}
 use Prim.Native.Nat.{ℕ, zero, suc, _+_, _≤_, _<_}
 use native.Mathlib.Omega.{arith}
+use borrow.Author.Tests.{lt-ltb, le-ltb}
 use Rattle.laws.proofs.Deciding.{lt-or-le, eq-or-ne, not-both}
 use Rattle.sheet.specs.Edges.{topHeight}
 use Rattle.steps.specs.declared.Side.{Side}
@@ -162,8 +163,13 @@ module _ (A : Setting) where
     flat = λ q. N .flat _ _ (N .same-film i h) q;
     is-row = λ q. absurd (N .proper i h q);
     named = refl;
+    parts = parts;
   }
     where
+      parts : (t : Side) → height sh (bottom t (edgeOf (A .sheet) i)) < height sh (top t (edgeOf (A .sheet) i)) → edgeOf (A .sheet) i .apart ≡ sh .list .apart (top t (edgeOf (A .sheet) i))
+      parts Rising q = ap (λ u. sh .list .apart (cond u (sh .list .head i) (sh .list .tail i))) (lt-ltb _ _ q)
+      parts Falling q = ap (λ u. sh .list .apart (cond u (sh .list .head i) (sh .list .tail i))) (le-ltb (height sh (sh .list .tail i)) (height sh (sh .list .head i)) (omega (arith, q)))
+
       l : 0 < size G (edge i)
       l = Q .waits i (omega arith) h
 

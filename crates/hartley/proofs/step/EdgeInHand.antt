@@ -167,10 +167,10 @@ module _ (A : Setting) {p h : ℕ} (E : Time (plan A) p h) where
       met-none clear = none (rw (a-table, a-journal) (lone N k E I P C side goes r (L .slot) (λ q o t. clear q o (rw a-table t))))
 
       pub meets : (f : Found) → up.meeting room a level side e ≡ f → Met f
-      unfolding up.meeting
-      meets f q = by (sh .list .apart (top side e)) refl f q
+      unfolding up.meeting up.pickMeeting
+      meets f q = by (e .apart) (sym (P .parts side goes)) f q
         where
-          by : (o : Bool) → sh .list .apart (top side e) ≡ o → (f : Found) → up.pickMeeting room o (up.find room a level (otherSide side) (top side e)) ≡ f → Met f
+          by : (o : Bool) → sh .list .apart (top side e) ≡ o → (f : Found) → up.pickMeeting o (up.find room a level (otherSide side) (top side e)) ≡ f → Met f
           by true o Nothing q = met-none (λ i c t. not-both o c)
           by true o (At i) q = let z : _≡_ {A = ℕ} 0 1 = cc in absurd (omega arith)
           by false o Nothing q = met-none (λ i c t. find-none (A .sheet) (A .rows) (A .records) a level (otherSide side) (top side e) q i t)

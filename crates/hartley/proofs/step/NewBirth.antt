@@ -56,6 +56,7 @@ module _ {sh : Plan} {p m n : ℕ} {T : Table} {J : List Rec} {B : Naming} {G : 
     flat = P .flat;
     is-row = P .is-row;
     named = ap (nameOf B′) same-owner ∙ same-name ∙ P .named;
+    parts = P .parts;
   }
 
   pub reborn-clean : {j : ℕ} → Clean j T B G → Clean j T B′ G

@@ -47,6 +47,7 @@ pub record Pre (sh : Plan) (p m : ℕ) (T : Table) (B : Naming) (G : Paths) (lev
   pub flat : height sh (e .tail) ≡ height sh (e .head) → e .tail ≡ e .head
   pub is-row : e .tail ≡ e .head → (l : ℕ) × (level ≡ suc l)
   pub named : nameOf B (ownerOf B level (e .name)) ≡ nameAt level (e .name)
+  pub parts : (s : Side) → height sh (bottom s e) < height sh (top s e) → e .apart ≡ sh .list .apart (top s e)
 
 -- step 1
 pub record HasTip (T : Table) (s : Side) (level t r : ℕ) : Type 0 where

@@ -42,6 +42,7 @@ module _ {sh : Plan} (N : Lawful sh) {p m : ℕ} (n : ℕ) (E : Time sh p m) whe
     flat = λ h. sym (ends Falling) ∙ N .flat _ _ (one-film N (I .frame .chain) x l) (ap (height sh) (ends Falling) ∙ h ∙ ap (height sh) (sym (ends Rising))) ∙ ends Rising;
     is-row = λ h. (T q .level, refl);
     named = ap ofRow nm;
+    parts = λ s h. sym (ap (sh .list .apart) (sym (ends s)) ∙ L .peaked s (both-finished s) .2);
   }
     where
       x : Owner

@@ -14,7 +14,7 @@ use Rattle.rows.proofs.Searching.{found-there, found-level}
 use Rattle.rows.proofs.Marking.{marked-freed}
 use Rattle.sweep.specs.Slices.{lentRoom, edgeOf}
 use Rattle.sweep.proofs.Rooms.{lowest-is}
-use Rattle.sweep.proofs.Ways.{up-unfinished, up-stopped, up-freed, both-one, both-stopped, both-passed, row-stopped, row-unmet, row-met, treat-closed, treat-none-left, Searched, treat-found, treat-no-row, treat-opened}
+use Rattle.sweep.proofs.Ways.{met-there, up-unfinished, up-stopped, up-freed, both-one, both-stopped, both-passed, row-stopped, row-unmet, row-met, treat-closed, treat-none-left, Searched, treat-found, treat-no-row, treat-opened}
 use Rattle.sweep.proofs.Marks.{marked-by, closing-peak, opened-level, marked-met}
 use borrow.Fn.Kinds.{In}
 use borrow.Fn.PlainCycle.{Measures, is, falls, and}
@@ -45,6 +45,7 @@ use Rattle.sweep.proofs.Progress.is_done.Reads as is-done-reads
 use Rattle.sweep.proofs.treating.as_edge.Reads as as-edge-reads
 use Rattle.sweep.proofs.treating.attach.Reads as attach-reads
 use Rattle.sweep.proofs.treating.close.Reads as close-reads
+use Rattle.sweep.proofs.treating.meeting.Reads as meeting-reads
 use Rattle.sweep.proofs.treating.open_lowest.Reads as open-lowest-reads
 use Rattle.sweep.proofs.treating.+on_row+pass_both+pass_up+treat.{statement}
 use Rattle.sweep.proofs.treating.+on_row+pass_both+pass_up+treat.Tie.{close}
@@ -142,8 +143,8 @@ on-row-calls t = (
   other-reads.Learnt,
   bottom-reads.Asked,
   bottom-reads.Learnt,
-  find-reads.Asked,
-  find-reads.Learnt,
+  meeting-reads.Asked,
+  meeting-reads.Learnt,
   finish-reads.Asked,
   finish-reads.Learnt,
   pass-both-below t,
@@ -169,7 +170,7 @@ on-row-returns-2 t c =
     let c₁₈ = c₁₃ .before .before .before .before .before in
     let g = c₁₈ .args in (
       row-unmet (g .rows .now) (g .journal .now) (g .left - 1) (g .level) (g .s) (g .level + 1) (g .side) (g .e) (g .r) (c₁₃ .attach .ensures .0) (sym (c₈ .is-done .ensures) ∙ not-false _ (c₇ .if1 .left))
-          (c₆ .other .ensures) (c₅ .bottom .ensures) (c₂ .find .ensures) (c .enum-told .given .1),
+          (c₆ .other .ensures) (c₅ .bottom .ensures) (c₂ .meeting .ensures) (c .enum-told .given .1),
       c₁₃ .attach .ensures .1,
     )
 
@@ -177,7 +178,7 @@ on-row-finish-requires : (t : ℕ) → on-row-lts.Need-finish-requires (on-row-c
 on-row-finish-requires t c κs =
     let c₂ = c .before .before in
     let c₄ = c₂ .before .before in
-    found-there _ _ _ _ _ _ (sym (c₄ .find .ensures) ∙ c₂ .q .given .1)
+    met-there _ _ _ _ _ _ (c₄ .meeting .ensures) (c₂ .q .given .1)
 
 on-row-finish-requires-2 : (t : ℕ) → on-row-lts.Need-finish-requires-2 (on-row-calls t) (on-row-at t) on-row.Post
 on-row-finish-requires-2 t c κs =
@@ -236,7 +237,7 @@ on-row-returns-3 t c =
     let g = c₃₃ .args in
     let la : length (c₉ .finish2 .last .0) ≡ length (g .rows .now) = omega (arith, c₂₈ .attach .kept .0, c₁₂ .finish .kept .0, c₉ .finish2 .kept .0) in (
       row-met (g .rows .now) (g .journal .now) (g .left - 1) (g .level) (g .s) (g .level + 1) (g .side) (g .e) (g .r) (c₂₈ .attach .ensures .0) (sym (c₂₃ .is-done .ensures) ∙ not-false _ (c₂₂ .if1 .left))
-          (c₂₁ .other .ensures) (c₂₀ .bottom .ensures) (c₁₇ .find .ensures) (c₁₅ .q .given .1) (c₁₂ .finish .ensures) (c₉ .finish2 .ensures)
+          (c₂₁ .other .ensures) (c₂₀ .bottom .ensures) (c₁₇ .meeting .ensures) (c₁₅ .q .given .1) (c₁₂ .finish .ensures) (c₉ .finish2 .ensures)
           la (c₂₈ .attach .kept .1 .0) (c₄ .pass-both .ensures .0),
       c₄ .pass-both .ensures .1,
     )
