@@ -14,22 +14,29 @@ use Rattle.numbering.proofs.number.Tie as tie
 number-checked-requires : tie.Need-number-checked-requires
 unfolding edgesIn
 number-checked-requires c κs =
-    let a = c .before .before .before .before .before .before .before .before .before .args in
-    let p = passed (callOf (lent (now (a .edges)) (now (a .polygons)) (now (a .sequences)) (now (a .journal)) (now (a .rows)))) (sym (c .before .before .before .before .before .before .check .ensures) ∙ c .before .before .before .before .enum-told .given .1) in
-    (p .few, p .journal)
+    let c₄ = c .before .before .before .before in
+    let c₆ = c₄ .before .before in
+    let c₉ = c₆ .before .before .before in
+    let a = c₉ .args in
+    let p = passed (callOf (lent (now (a .edges)) (now (a .polygons)) (now (a .sequences)) (now (a .journal)) (now (a .rows)))) (sym (c₆ .check .ensures) ∙ c₄ .enum-told .given .1) in (p .few, p .journal)
 
 returns : tie.Need-returns
 returns c =
-    let a = c .before .before .before .before .before .before .args in
-    let l = lent (now (a .edges)) (now (a .polygons)) (now (a .sequences)) (now (a .journal)) (now (a .rows)) in
-    promised l _ (when-refused l _ (sym (c .before .before .before .check .ensures) ∙ c .before .checked .given .1))
+    let c₁ = c .before in
+    let c₃ = c₁ .before .before in
+    let c₆ = c₃ .before .before .before in
+    let a = c₆ .args in
+    let l = lent (now (a .edges)) (now (a .polygons)) (now (a .sequences)) (now (a .journal)) (now (a .rows)) in promised l _ (when-refused l _ (sym (c₃ .check .ensures) ∙ c₁ .checked .given .1))
 
 returns-2 : tie.Need-returns-2
 returns-2 c =
-    let a = c .before .before .before .before .before .before .before .before .before .before .before .before .before .before .before .before .args in
+    let c₆ = c .before .before .before .before .before .before in
+    let c₁₁ = c₆ .before .before .before .before .before in
+    let c₁₃ = c₁₁ .before .before in
+    let c₁₆ = c₁₃ .before .before .before in
+    let a = c₁₆ .args in
     let l = lent (now (a .edges)) (now (a .polygons)) (now (a .sequences)) (now (a .journal)) (now (a .rows)) in
-    let ok = sym (c .before .before .before .before .before .before .before .before .before .before .before .before .before .check .ensures) ∙ c .before .before .before .before .before .before .before .before .before .before .before .enum-told .given .1 in
-    promised l _ (c .before .before .before .before .before .before .number-checked .ensures ∙ runs l ok)
+    let ok = sym (c₁₃ .check .ensures) ∙ c₁₁ .enum-told .given .1 in promised l _ (c₆ .number-checked .ensures ∙ runs l ok)
 
 pub number-spec : {M : Type 1} → statement M
 number-spec =

@@ -11,15 +11,30 @@ use Rattle.numbering.proofs.number_checked.Tie as tie
 
 slice-aggregate-sweep-both : tie.Need-slice-aggregate-sweep-both
 unfolding edgesIn
-slice-aggregate-sweep-both c = sym (leaving.part-long (lent (now (c .before .before .before .before .before .args .edges)) (now (c .before .before .before .before .before .args .polygons)) (now (c .before .before .before .before .before .args .sequences)) (now (c .before .before .before .before .before .args .journal)) (now (c .before .before .before .before .before .args .rows))) (c .before .before .before .before .before .pre .1))
+slice-aggregate-sweep-both c =
+    let c₅ = c .before .before .before .before .before in
+    let a = c₅ .args in
+    let l = lent (now (a .edges)) (now (a .polygons)) (now (a .sequences)) (now (a .journal)) (now (a .rows)) in
+    sym (leaving.part-long l (c₅ .pre .1))
 
 sweep-both-requires : tie.Need-sweep-both-requires
 unfolding edgesIn
-sweep-both-requires c κs = (c .before .before .before .before .before .before .pre .0, leaving.part-long (lent (now (c .before .before .before .before .before .before .args .edges)) (now (c .before .before .before .before .before .before .args .polygons)) (now (c .before .before .before .before .before .before .args .sequences)) (now (c .before .before .before .before .before .before .args .journal)) (now (c .before .before .before .before .before .before .args .rows))) (c .before .before .before .before .before .before .pre .1))
+sweep-both-requires c κs =
+    let c₆ = c .before .before .before .before .before .before in
+    let a = c₆ .args in
+    let l = lent (now (a .edges)) (now (a .polygons)) (now (a .sequences)) (now (a .journal)) (now (a .rows)) in
+    (c₆ .pre .0, leaving.part-long l (c₆ .pre .1))
 
 returns : tie.Need-returns
 unfolding edgesIn
-returns c = leaving.behind (lent (now (c .before .before .before .before .before .before .before .before .before .before .before .before .before .before .before .before .args .edges)) (now (c .before .before .before .before .before .before .before .before .before .before .before .before .before .before .before .before .args .polygons)) (now (c .before .before .before .before .before .before .before .before .before .before .before .before .before .before .before .before .args .sequences)) (now (c .before .before .before .before .before .before .before .before .before .before .before .before .before .before .before .before .args .journal)) (now (c .before .before .before .before .before .before .before .before .before .before .before .before .before .before .before .before .args .rows))) (c .before .before .before .before .before .before .before .before .before .before .before .before .before .before .before .before .pre .1) (c .before .before .before .before .before .before .before .before .before .sweep-both .ensures) (omega (arith, leaving.part-long (lent (now (c .before .before .before .before .before .before .before .before .before .before .before .before .before .before .before .before .args .edges)) (now (c .before .before .before .before .before .before .before .before .before .before .before .before .before .before .before .before .args .polygons)) (now (c .before .before .before .before .before .before .before .before .before .before .before .before .before .before .before .before .args .sequences)) (now (c .before .before .before .before .before .before .before .before .before .before .before .before .before .before .before .before .args .journal)) (now (c .before .before .before .before .before .before .before .before .before .before .before .before .before .before .before .before .args .rows))) (c .before .before .before .before .before .before .before .before .before .before .before .before .before .before .before .before .pre .1), c .before .before .before .before .journal .given)) (c .before .zero-from .ensures)
+returns c =
+    let c₁ = c .before in
+    let c₄ = c₁ .before .before .before in
+    let c₉ = c₄ .before .before .before .before .before in
+    let c₁₆ = c₉ .before .before .before .before .before .before .before in
+    let a = c₁₆ .args in
+    let l = lent (now (a .edges)) (now (a .polygons)) (now (a .sequences)) (now (a .journal)) (now (a .rows)) in
+    leaving.behind l (c₁₆ .pre .1) (c₉ .sweep-both .ensures) (omega (arith, leaving.part-long l (c₁₆ .pre .1), c₄ .journal .given)) (c₁ .zero-from .ensures)
 
 pub number-checked-spec : {M : Type 1} → statement M
 number-checked-spec =

@@ -15,29 +15,69 @@ use Rattle.numbering.proofs.sweep_both.Tie as tie
 cast-t25 : tie.Need-cast-t25
 unfolding sweptUp edgesIn
 cast-t25 c =
-    record { fits = omega (arith, ap (λ w. w .edge) (c .before .before .before .before .before .before .before .before .before .before .before .sweep-up .ensures .0), leaving.edge-fits (lent (now (c .before .before .before .before .before .before .before .before .before .before .before .before .before .before .before .before .args .edges)) (now (c .before .before .before .before .before .before .before .before .before .before .before .before .before .before .before .before .args .polygons)) (now (c .before .before .before .before .before .before .before .before .before .before .before .before .before .before .before .before .args .sequences)) (now (c .before .before .before .before .before .before .before .before .before .before .before .before .before .before .before .before .args .journal)) (now (c .before .before .before .before .before .before .before .before .before .before .before .before .before .before .before .before .args .rows))) (c .before .before .before .before .before .before .before .before .before .before .before .before .before .before .before .before .pre .0) (c .before .before .before .before .before .before .before .before .before .before .before .before .before .before .before .before .pre .1)) }
+    let c₁₁ = c .before .before .before .before .before .before .before .before .before .before .before in
+    let c₁₆ = c₁₁ .before .before .before .before .before in
+    let a = c₁₆ .args in
+    let l = lent (now (a .edges)) (now (a .polygons)) (now (a .sequences)) (now (a .journal)) (now (a .rows)) in
+    record { fits = omega (arith, ap (λ w. w .edge) (c₁₁ .sweep-up .ensures .0), leaving.edge-fits l (c₁₆ .pre .0) (c₁₆ .pre .1)) }
 
 returns : tie.Need-returns
 unfolding sweptUp edgesIn
 returns c =
-    leaving.when-stopped (lent (now (c .before .before .before .before .before .before .before .before .before .before .before .before .before .before .before .before .args .edges)) (now (c .before .before .before .before .before .before .before .before .before .before .before .before .before .before .before .before .args .polygons)) (now (c .before .before .before .before .before .before .before .before .before .before .before .before .before .before .before .before .args .sequences)) (now (c .before .before .before .before .before .before .before .before .before .before .before .before .before .before .before .before .args .journal)) (now (c .before .before .before .before .before .before .before .before .before .before .before .before .before .before .before .before .args .rows))) (c .before .before .before .before .before .before .before .before .before .before .before .sweep-up .ensures .0) (search needs) (sym (c .before .before .before .before .before .before .before .is-done .ensures) ∙ not-true _ (c .before .before .before .before .before .before .if1 .taken)) (search needs) (c .before .before .before .before .zero-from .ensures) (c .before .clear .ensures)
+    let c₁ = c .before in
+    let c₄ = c₁ .before .before .before in
+    let c₆ = c₄ .before .before in
+    let c₇ = c₆ .before in
+    let c₉ = c₇ .before .before in
+    let c₁₀ = c₉ .before in
+    let c₁₁ = c₁₀ .before in
+    let c₁₆ = c₁₁ .before .before .before .before .before in
+    let a = c₁₆ .args in
+    let l = lent (now (a .edges)) (now (a .polygons)) (now (a .sequences)) (now (a .journal)) (now (a .rows)) in
+    leaving.when-stopped l (c₁₁ .sweep-up .ensures .0) (c₁₀ .journal .given) (sym (c₇ .is-done .ensures) ∙ not-true _ (c₆ .if1 .taken)) (c₉ .rows .given) (c₄ .zero-from .ensures) (c₁ .clear .ensures)
 
 cast-t40 : tie.Need-cast-t40
 unfolding sweptUp edgesIn
 cast-t40 c =
-    record { fits = omega (arith, leaving.count-fits (lent (now (c .before .before .before .before .before .before .before .before .before .before .before .before .before .before .before .before .before .before .before .before .before .before .before .before .before .before .args .edges)) (now (c .before .before .before .before .before .before .before .before .before .before .before .before .before .before .before .before .before .before .before .before .before .before .before .before .before .before .args .polygons)) (now (c .before .before .before .before .before .before .before .before .before .before .before .before .before .before .before .before .before .before .before .before .before .before .before .before .before .before .args .sequences)) (now (c .before .before .before .before .before .before .before .before .before .before .before .before .before .before .before .before .before .before .before .before .before .before .before .before .before .before .args .journal)) (now (c .before .before .before .before .before .before .before .before .before .before .before .before .before .before .before .before .before .before .before .before .before .before .before .before .before .before .args .rows))) (c .before .before .before .before .before .before .before .before .before .before .before .before .before .before .before .before .before .before .before .before .before .sweep-up .ensures .0) (search needs) (is-done-end _ (sym (c .before .before .before .before .before .before .before .before .before .before .before .before .before .before .before .before .before .is-done .ensures) ∙ not-false _ (c .before .before .before .before .before .before .before .before .before .before .before .before .before .before .before .before .if1 .left))) (c .before .before .before .before .before .before .before .before .before .before .before .before .before .before .before .before .before .before .before .before .before .sweep-up .ensures .1) (c .before .before .before .before .before .before .before .before .before .before .before .sweep-down .ensures), ap (λ w. w .state .records) (c .before .before .before .before .before .before .before .before .before .before .before .before .before .before .before .before .before .before .before .before .before .sweep-up .ensures .0), leaving.records-fit (lent (now (c .before .before .before .before .before .before .before .before .before .before .before .before .before .before .before .before .before .before .before .before .before .before .before .before .before .before .args .edges)) (now (c .before .before .before .before .before .before .before .before .before .before .before .before .before .before .before .before .before .before .before .before .before .before .before .before .before .before .args .polygons)) (now (c .before .before .before .before .before .before .before .before .before .before .before .before .before .before .before .before .before .before .before .before .before .before .before .before .before .before .args .sequences)) (now (c .before .before .before .before .before .before .before .before .before .before .before .before .before .before .before .before .before .before .before .before .before .before .before .before .before .before .args .journal)) (now (c .before .before .before .before .before .before .before .before .before .before .before .before .before .before .before .before .before .before .before .before .before .before .before .before .before .before .args .rows))) (c .before .before .before .before .before .before .before .before .before .before .before .before .before .before .before .before .before .before .before .before .before .before .before .before .before .before .pre .0) (c .before .before .before .before .before .before .before .before .before .before .before .before .before .before .before .before .before .before .before .before .before .before .before .before .before .before .pre .1)) }
+    let c₁₁ = c .before .before .before .before .before .before .before .before .before .before .before in
+    let c₁₆ = c₁₁ .before .before .before .before .before in
+    let c₁₇ = c₁₆ .before in
+    let c₂₀ = c₁₇ .before .before .before in
+    let c₂₁ = c₂₀ .before in
+    let c₂₆ = c₂₁ .before .before .before .before .before in
+    let a = c₂₆ .args in
+    let l = lent (now (a .edges)) (now (a .polygons)) (now (a .sequences)) (now (a .journal)) (now (a .rows)) in
+    record { fits = omega (arith, leaving.count-fits l (c₂₁ .sweep-up .ensures .0) (c₂₀ .journal .given) (is-done-end _ (sym (c₁₇ .is-done .ensures) ∙ not-false _ (c₁₆ .if1 .left))) (c₂₁ .sweep-up .ensures .1) (c₁₁ .sweep-down .ensures), ap (λ w. w .state .records) (c₂₁ .sweep-up .ensures .0), leaving.records-fit l (c₂₆ .pre .0) (c₂₆ .pre .1)) }
 
 cast-t41 : tie.Need-cast-t41
 unfolding sweptUp edgesIn
 cast-t41 c =
-    let e = c .before .before .before .before .before .before .before .before .before .before .before .before .before .before .before .before .before .before .before .before .before .sweep-up .ensures .0 in
-    let d = is-done-end _ (sym (c .before .before .before .before .before .before .before .before .before .before .before .before .before .before .before .before .before .is-done .ensures) ∙ not-false _ (c .before .before .before .before .before .before .before .before .before .before .before .before .before .before .before .before .if1 .left)) in
-    record { fits = omega (arith, ap (λ w. w .state .peak) e, leaving.peak-fits (lent (now (c .before .before .before .before .before .before .before .before .before .before .before .before .before .before .before .before .before .before .before .before .before .before .before .before .before .before .args .edges)) (now (c .before .before .before .before .before .before .before .before .before .before .before .before .before .before .before .before .before .before .before .before .before .before .before .before .before .before .args .polygons)) (now (c .before .before .before .before .before .before .before .before .before .before .before .before .before .before .before .before .before .before .before .before .before .before .before .before .before .before .args .sequences)) (now (c .before .before .before .before .before .before .before .before .before .before .before .before .before .before .before .before .before .before .before .before .before .before .before .before .before .before .args .journal)) (now (c .before .before .before .before .before .before .before .before .before .before .before .before .before .before .before .before .before .before .before .before .before .before .before .before .before .before .args .rows))) (c .before .before .before .before .before .before .before .before .before .before .before .before .before .before .before .before .before .before .before .before .before .before .before .before .before .before .pre .0) (c .before .before .before .before .before .before .before .before .before .before .before .before .before .before .before .before .before .before .before .before .before .before .before .before .before .before .pre .1) (sym (ap (λ w. w .state .end) e) ∙ d)) }
+    let c₁₆ = c .before .before .before .before .before .before .before .before .before .before .before .before .before .before .before .before in
+    let c₁₇ = c₁₆ .before in
+    let c₂₁ = c₁₇ .before .before .before .before in
+    let c₂₆ = c₂₁ .before .before .before .before .before in
+    let a = c₂₆ .args in
+    let l = lent (now (a .edges)) (now (a .polygons)) (now (a .sequences)) (now (a .journal)) (now (a .rows)) in
+    let e = c₂₁ .sweep-up .ensures .0 in
+    let d = is-done-end _ (sym (c₁₇ .is-done .ensures) ∙ not-false _ (c₁₆ .if1 .left)) in
+    record { fits = omega (arith, ap (λ w. w .state .peak) e, leaving.peak-fits l (c₂₆ .pre .0) (c₂₆ .pre .1) (sym (ap (λ w. w .state .end) e) ∙ d)) }
 
 returns-2 : tie.Need-returns-2
 unfolding sweptUp edgesIn
 returns-2 c =
-    leaving.when-done (lent (now (c .before .before .before .before .before .before .before .before .before .before .before .before .before .before .before .before .before .before .before .before .before .before .before .before .before .before .args .edges)) (now (c .before .before .before .before .before .before .before .before .before .before .before .before .before .before .before .before .before .before .before .before .before .before .before .before .before .before .args .polygons)) (now (c .before .before .before .before .before .before .before .before .before .before .before .before .before .before .before .before .before .before .before .before .before .before .before .before .before .before .args .sequences)) (now (c .before .before .before .before .before .before .before .before .before .before .before .before .before .before .before .before .before .before .before .before .before .before .before .before .before .before .args .journal)) (now (c .before .before .before .before .before .before .before .before .before .before .before .before .before .before .before .before .before .before .before .before .before .before .before .before .before .before .args .rows))) (c .before .before .before .before .before .before .before .before .before .before .before .before .before .before .before .before .before .before .before .before .before .sweep-up .ensures .0) (search needs) (is-done-end _ (sym (c .before .before .before .before .before .before .before .before .before .before .before .before .before .before .before .before .before .is-done .ensures) ∙ not-false _ (c .before .before .before .before .before .before .before .before .before .before .before .before .before .before .before .before .if1 .left))) (c .before .before .before .before .before .before .before .before .before .before .before .before .before .before .before .before .before .before .before .before .before .sweep-up .ensures .1) (c .before .before .before .before .before .before .before .before .before .before .before .sweep-down .ensures) (search needs) (c .before .before .before .before .zero-from2 .ensures) (c .before .clear2 .ensures)
+    let c₁ = c .before in
+    let c₄ = c₁ .before .before .before in
+    let c₁₀ = c₄ .before .before .before .before .before .before in
+    let c₁₁ = c₁₀ .before in
+    let c₁₆ = c₁₁ .before .before .before .before .before in
+    let c₁₇ = c₁₆ .before in
+    let c₁₉ = c₁₇ .before .before in
+    let c₂₀ = c₁₉ .before in
+    let c₂₁ = c₂₀ .before in
+    let c₂₆ = c₂₁ .before .before .before .before .before in
+    let a = c₂₆ .args in
+    let l = lent (now (a .edges)) (now (a .polygons)) (now (a .sequences)) (now (a .journal)) (now (a .rows)) in
+    leaving.when-done l (c₂₁ .sweep-up .ensures .0) (c₂₀ .journal .given) (is-done-end _ (sym (c₁₇ .is-done .ensures) ∙ not-false _ (c₁₆ .if1 .left))) (c₂₁ .sweep-up .ensures .1) (c₁₁ .sweep-down .ensures) (c₁₀ .rows3 .given ∙ c₁₉ .rows .given) (c₄ .zero-from2 .ensures) (c₁ .clear2 .ensures)
 
 pub sweep-both-spec : {M : Type 1} → statement M
 sweep-both-spec =
