@@ -16,7 +16,8 @@ use Rattle.laws.proofs.First.{none-below}
 use Rattle.laws.proofs.Searching.{NoneBelow}
 use Rattle.sheet.specs.declared.Check.the-variants.{Passed}
 use Rattle.sheet.specs.Points.{inRange}
-use Rattle.sheet.specs.Edges.{edgeAt, edgesIn, drawingOf, topHeight, SweepOrder}
+use Rattle.sheet.specs.Edges.{edgeAt, edgesIn, drawingOf, topHeight}
+use Rattle.sheet.specs.Sound.{SweepOrder}
 use Rattle.sheet.specs.Kinds.{Way, arriving, leaving, From, below, above, endOf, comes, numberAt}
 use Rattle.sheet.specs.Answers.{Call, notWhole, tooMany, listsDiffer, journalShort, sameFrom, sameKind, repeats, differ, uneven, checked}
 use Rattle.sheet.proofs.Tops.{end-heights}

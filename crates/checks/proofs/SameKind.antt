@@ -11,7 +11,7 @@ use borrow.Author.Tests.{lt-ltb, le-ltb, ne-eqb}
 use Rattle.laws.proofs.Tests.{and-true, and-false, or-swap, eqb-agree}
 use Rattle.laws.proofs.Either.{some-below-either}
 use Rattle.sheet.specs.Edges.{drawingOf}
-use Rattle.sheet.specs.Kinds.{Way, arriving, leaving, From, below, above, otherWay, endOf, fromTest, comes}
+use Rattle.sheet.specs.Kinds.{Way, arriving, leaving, From, below, above, otherWay, endOf, comes}
 use Rattle.sheet.specs.Answers.{sameFrom, sameKind, repeats}
 use Rattle.checks.specs.Faults.{Faultless}
 use Rattle.checks.specs.Keys.{topKey, bottomKey}
@@ -21,11 +21,11 @@ use Rattle.checks.proofs.Keys.{Goes, up, down, goes}
 module _ (s : List ℤ) (e : ℕ) where
   from-below : (w : Way) → endOf (drawingOf s) (otherWay w) e < endOf (drawingOf s) w e → comes (drawingOf s) w e ≡ below
   unfolding comes drawingOf
-  from-below w l = ap fromTest (lt-ltb _ _ l)
+  from-below w l = ap (λ t. cond t below above) (lt-ltb _ _ l)
 
   from-above : (w : Way) → endOf (drawingOf s) w e < endOf (drawingOf s) (otherWay w) e → comes (drawingOf s) w e ≡ above
   unfolding comes drawingOf
-  from-above w l = ap fromTest (le-ltb (endOf (drawingOf s) (otherWay w) e) (endOf (drawingOf s) w e) (omega arith))
+  from-above w l = ap (λ t. cond t below above) (le-ltb (endOf (drawingOf s) (otherWay w) e) (endOf (drawingOf s) w e) (omega arith))
 
 -- edges that come from one side are of one kind where they meet, others never
 by-sides : (s : List ℤ) (w : Way) (e f : ℕ) (a b : From) → comes (drawingOf s) w e ≡ a → comes (drawingOf s) w f ≡ b → sameKind (drawingOf s) w e f ≡ cond (sameFrom a b) (eqb (endOf (drawingOf s) w e) (endOf (drawingOf s) w f)) false

@@ -12,9 +12,10 @@ use Rattle.sheet.specs.Edges.{edgesIn, drawingOf}
 use Rattle.sheet.specs.Numbering.{Numbering}
 use Rattle.sheet.specs.Answers.{numberOf}
 use Rattle.checks.proofs.Passed.{AllPassed, passed}
-use Rattle.numbering.specs.Outcome.{Lent, callOf}
+use Rattle.numbering.specs.Outcome.{Lent, callOf, Left}
 use Rattle.numbering.proofs.Promising as numbering
-use Rattle.desk.specs.Exported.{sheetFrom, Exported, Exports}
+use Rattle.desk.specs.declared.Sheet.{Sheet}
+use Rattle.desk.specs.Exported.{sheetFrom, Exports}
 
 refused-not-zero : (r : Refusal) → numberOf r ≡ 0 → ⊥
 refused-not-zero NotWhole q = omega arith
@@ -33,19 +34,19 @@ zero-accepted : (a : Answer) → sheetFrom a .refusal ≡ 0 → (peak : ℕ) × 
 zero-accepted (answer.Accepted p k m) q = (k, m, refl)
 zero-accepted (answer.Refused r) q = absurd (refused-not-zero r q)
 
-pub record AcceptedCall (l : Lent) (y : Exported) : Type 0 where
+pub record AcceptedCall (l : Lent) (y : Left Sheet) : Type 0 where
   pub all-passed : AllPassed (callOf l)
-  pub numbering : Numbering (drawingOf (l .list)) (λ e. getD (y .polygons) e 0) (λ e. getD (y .sequences) e 0) (y .sheet .polygons)
+  pub numbering : Numbering (drawingOf (l .list)) (λ e. getD (y .polygons) e 0) (λ e. getD (y .sequences) e 0) (y .answer .polygons)
   pub polygons-long : length (y .polygons) ≡ edgesIn (l .list)
   pub sequences-long : length (y .sequences) ≡ edgesIn (l .list)
 
-pub accepted-call : (l : Lent) (y : Exported) → Exports l y → y .sheet .refusal ≡ 0 → AcceptedCall l y
+pub accepted-call : (l : Lent) (y : Left Sheet) → Exports l y → y .answer .refusal ≡ 0 → AcceptedCall l y
 accepted-call l y E q =
-    let w = zero-accepted (E .inner .answer) (ap (λ (u : Exported). u .sheet .refusal) (sym (E .same)) ∙ q) in
+    let w = zero-accepted (E .inner .answer) (ap (λ (u : Left Sheet). u .answer .refusal) (sym (E .same)) ∙ q) in
     let A = numbering.accepted-call (E .promised .outcome-is) (w .2) in
     record {
       all-passed = passed (callOf l) (A .passed-all);
-      numbering = subst (λ (u : Exported). Numbering (drawingOf (l .list)) (λ e. getD (u .polygons) e 0) (λ e. getD (u .sequences) e 0) (u .sheet .polygons)) (sym (E .same)) (E .promised .numbered _ _ _ (w .2));
-      polygons-long = ap (λ (u : Exported). length (u .polygons)) (E .same) ∙ A .polygons-long;
-      sequences-long = ap (λ (u : Exported). length (u .sequences)) (E .same) ∙ A .sequences-long;
+      numbering = subst (λ (u : Left Sheet). Numbering (drawingOf (l .list)) (λ e. getD (u .polygons) e 0) (λ e. getD (u .sequences) e 0) (u .answer .polygons)) (sym (E .same)) (E .promised .numbered _ _ _ (w .2));
+      polygons-long = ap (λ (u : Left Sheet). length (u .polygons)) (E .same) ∙ A .polygons-long;
+      sequences-long = ap (λ (u : Left Sheet). length (u .sequences)) (E .same) ∙ A .sequences-long;
     }

@@ -8,7 +8,8 @@ use Rattle.sheet.specs.declared.TurnRefusal.{TurnRefusal}
 use Rattle.sheet.specs.declared.TurnRefusal.the-variants.{LengthsDiffer, NoPolygon, PairRepeated, Gap}
 use Rattle.sheet.specs.declared.TurnAnswer.{TurnAnswer}
 use Rattle.sheet.specs.declared.TurnAnswer.the-variants.{Accepted, Refused}
-use Rattle.sheet.specs.TurnList.{turnNumberOf, GoodLists, AcceptsExactly}
+use Rattle.sheet.specs.TurnList.{turnNumberOf, GoodLists}
+use Rattle.sheet.specs.Sound.{AcceptsExactly}
 use Rattle.desk.specs.declared.Turned.{Turned}
 use Rattle.desk.specs.Exported.{turnedFrom}
 

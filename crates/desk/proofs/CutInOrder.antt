@@ -16,7 +16,8 @@ use Rattle.laws.proofs.Deciding.{lt-or-le}
 use Rattle.sheet.specs.declared.Edge.{Edge}
 use Rattle.sheet.specs.declared.TurnAnswer.{TurnAnswer}
 use Rattle.sheet.specs.Edges.{Drawing, edgeAt, edgesIn, drawingOf}
-use Rattle.sheet.specs.Joining.{Follows, InOutline}
+use Rattle.sheet.specs.Joining.{Follows}
+use Rattle.sheet.specs.Sound.{InOutline}
 use Rattle.sheet.specs.Numbering.{Numbering}
 use Rattle.sheet.specs.Passing.{outlineSize}
 use Rattle.sheet.specs.Answers.{Call}
@@ -27,10 +28,11 @@ use Rattle.sheet.proofs.Outlines.{outline-shares, shares-outline}
 use Rattle.sheet.proofs.ExactlyAccepted.{accepts-exactly}
 use Rattle.checks.proofs.Passed.{AllPassed}
 use Rattle.hartley.proofs.results.TurnsFollow.{sequence-below, sequence-met, last-to-first, turns-follow}
-use Rattle.numbering.specs.Outcome.{Lent}
+use Rattle.numbering.specs.Outcome.{Lent, Left}
 use Rattle.turns.proofs.OneTurnList.{every-edge, edge-once}
+use Rattle.desk.specs.declared.Sheet.{Sheet}
 use Rattle.desk.specs.declared.Turned.{Turned}
-use Rattle.desk.specs.Exported.{Exported, Exports, ReadTurns}
+use Rattle.desk.specs.Exported.{Exports, ReadTurns}
 use Rattle.desk.proofs.AcceptedCall.{AcceptedCall, accepted-call}
 
 -- the edge at a position of a turn list, and its number in a list of numbers
@@ -45,9 +47,9 @@ abbrev pub LastOfPolygon : List ℕ → List ℕ → ℕ → Type 0
 LastOfPolygon polygons turns i = suc i < length turns → numberCut polygons turns i ≡ numberCut polygons turns (suc i) → ⊥
 
 -- what the turn list of an accepted sheet is, answered with r
-pub record CutInOrder (list : List ℤ) (y : Exported) (turns : List ℕ) (r : Turned) : Type 0 where
+pub record CutInOrder (list : List ℤ) (y : Left Sheet) (turns : List ℕ) (r : Turned) : Type 0 where
   pub accepted : r .refusal ≡ 0
-  pub all-polygons : r .polygons ≡ y .sheet .polygons
+  pub all-polygons : r .polygons ≡ y .answer .polygons
   -- every edge stands in it once
   pub as-long : length turns ≡ edgesIn list
   pub edge-once : (e : ℕ) → e < edgesIn list → count (λ i. eqb (getD turns i 0) e) (length turns) ≡ 1
@@ -58,7 +60,7 @@ pub record CutInOrder (list : List ℤ) (y : Exported) (turns : List ℕ) (r : T
       → (j : ℕ) × (j ≤ i) × (numberCut (y .polygons) turns j ≡ numberCut (y .polygons) turns i) × (numberCut (y .sequences) turns j ≡ 0) × (edgeCut list turns i .head ≡ edgeCut list turns j .tail)
 
 -- what the two lists of an accepted sheet are: a polygon number is an outline's, and a sequence number is below the number of its edges
-pub record NumbersOfOutlines (list : List ℤ) (y : Exported) : Type 0 where
+pub record NumbersOfOutlines (list : List ℤ) (y : Left Sheet) : Type 0 where
   pub one-outline : (e f : ℕ) → e < edgesIn list → f < edgesIn list → (getD (y .polygons) f 0 ≡ getD (y .polygons) e 0) ↔ InOutline (drawingOf list) e f
   pub below-its-edges : (e : ℕ) → e < edgesIn list → getD (y .sequences) e 0 < outlineSize (drawingOf list) (λ f. getD (y .polygons) f 0) (getD (y .polygons) e 0)
 
@@ -127,7 +129,7 @@ meets : {c : Call} → AllPassed c → (e f : ℕ) → Follows (drawingOf (c .li
 unfolding drawingOf
 meets {c} P e f F = rank-inj (edgeAt (c .list) e .head) (edgeAt (c .list) f .tail) (P .heads-in-range e (F .is-edge)) (P .tails-in-range f (F .next-is-edge)) (sym (F .meet))
 
-module _ (l : Lent) (y : Exported) (E : Exports l y) (ok : y .sheet .refusal ≡ 0) where
+module _ (l : Lent) (y : Left Sheet) (E : Exports l y) (ok : y .answer .refusal ≡ 0) where
   C : AcceptedCall l y
   C = accepted-call l y E ok
 
@@ -139,17 +141,17 @@ module _ (l : Lent) (y : Exported) (E : Exports l y) (ok : y .sheet .refusal ≡
   }
 
   module _ (before after : List ℕ) (r : Turned) (size : length before ≡ edgesIn (l .list)) (R : ReadTurns (y .polygons) (y .sequences) before after r) where
-    good : GoodLists (y .polygons) (y .sequences) (length before) (y .sheet .polygons)
+    good : GoodLists (y .polygons) (y .sequences) (length before) (y .answer .polygons)
     unfolding drawingOf numberLists
     good = record {
       sequences-too = C .sequences-long ∙ sym (C .polygons-long);
       turns-too = size ∙ sym (C .polygons-long);
       few = omega (arith, C .polygons-long, C .all-passed .few);
-      numbering = subst (λ (k : ℕ). GoodNumbering (record { polygon = λ e. getD (y .polygons) e 0; sequence = λ e. getD (y .sequences) e 0; edges = k }) (y .sheet .polygons)) (sym (C .polygons-long)) (numbering-good (C .all-passed .sheet) (C .numbering));
+      numbering = subst (λ (k : ℕ). GoodNumbering (record { polygon = λ e. getD (y .polygons) e 0; sequence = λ e. getD (y .sequences) e 0; edges = k }) (y .answer .polygons)) (sym (C .polygons-long)) (numbering-good (C .all-passed .sheet) (C .numbering));
     }
 
     turns : TurnList (numberLists (y .polygons) (y .sequences)) after
-    turns = subst (λ (a : TurnAnswer). TurnsAfter (y .polygons) (y .sequences) a before after) (accepts-exactly (y .polygons) (y .sequences) (length before) (y .sheet .polygons) .1 good) (R .turns)
+    turns = subst (λ (a : TurnAnswer). TurnsAfter (y .polygons) (y .sequences) a before after) (accepts-exactly (y .polygons) (y .sequences) (length before) (y .answer .polygons) .1 good) (R .turns)
 
     drawn : TurnList (record { polygon = λ e. getD (y .polygons) e 0; sequence = λ e. getD (y .sequences) e 0; edges = drawingOf (l .list) .edges }) after
     unfolding drawingOf numberLists
@@ -161,8 +163,8 @@ module _ (l : Lent) (y : Exported) (E : Exports l y) (ok : y .sheet .refusal ≡
     pub cut-in-order : CutInOrder (l .list) y after r
     unfolding drawingOf
     cut-in-order = record {
-      accepted = R .exactly (y .sheet .polygons) .1 good .0;
-      all-polygons = R .exactly (y .sheet .polygons) .1 good .1;
+      accepted = R .exactly (y .answer .polygons) .1 good .0;
+      all-polygons = R .exactly (y .answer .polygons) .1 good .1;
       as-long = long;
       edge-once = λ e el. ap (count (λ i. eqb (getD after i 0) e)) long ∙ edge-once drawn e el;
       end-to-end = λ i il q. meets (C .all-passed) _ _ (turns-follow (C .all-passed .sheet) (C .numbering) after drawn i (omega (arith, il, long)) q);

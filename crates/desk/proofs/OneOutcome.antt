@@ -4,12 +4,13 @@ use mathlib.Core.List.{List}
 use Prim.Native.Nat.{ℕ}
 use lib.ListN.{length}
 use Rattle.sheet.specs.TurnList.{turned}
-use Rattle.numbering.specs.Outcome.{Lent}
+use Rattle.numbering.specs.Outcome.{Lent, Left}
 use Rattle.turns.proofs.OneTurnList.{one-outcome}
+use Rattle.desk.specs.declared.Sheet.{Sheet}
 use Rattle.desk.specs.declared.Turned.{Turned}
-use Rattle.desk.specs.Exported.{Exported, Exports, ReadTurns, byNumbers}
+use Rattle.desk.specs.Exported.{Exports, ReadTurns, byNumbers}
 
-pub one-numbering : (l : Lent) {x y : Exported} → Exports l x → Exports l y → x ≡ y
+pub one-numbering : (l : Lent) {x y : Left Sheet} → Exports l x → Exports l y → x ≡ y
 one-numbering l a b = a .same ∙ ap byNumbers (a .promised .outcome-is ∙ sym (b .promised .outcome-is)) ∙ sym (b .same)
 
 pub one-reading : (polygons sequences before : List ℕ) {s t : List ℕ} {x y : Turned}

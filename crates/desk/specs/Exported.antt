@@ -11,7 +11,7 @@ use Rattle.sheet.specs.declared.TurnAnswer.{TurnAnswer}
 use Rattle.sheet.specs.declared.TurnAnswer.the-variants as turn
 use Rattle.sheet.specs.Answers.{numberOf, placeOf}
 use Rattle.sheet.specs.TurnList.{turnNumberOf, turnPlaceOf, turned, GoodLists, TurnsAfter}
-use Rattle.numbering.specs.Outcome.{Lent, Left}
+use Rattle.numbering.specs.Outcome.{Lent, Left, leaving}
 use Rattle.numbering.specs.Promised.{Promised}
 use Rattle.desk.specs.declared.Sheet.{Sheet}
 use Rattle.desk.specs.declared.Turned.{Turned}
@@ -24,23 +24,12 @@ abbrev pub turnedFrom : TurnAnswer → Turned
 turnedFrom (turn.Accepted polygons) = record { refusal = 0; place = 0; polygons = polygons }
 turnedFrom (turn.Refused r) = record { refusal = turnNumberOf r; place = turnPlaceOf r; polygons = 0 }
 
--- the answer with the four slices as they are left
-pub record Exported : Type 0 where
-  pub sheet : Sheet
-  pub polygons : List ℕ
-  pub sequences : List ℕ
-  pub journal : List ℤ
-  pub rows : List ℤ
-
-abbrev pub exported : Sheet → List ℕ → List ℕ → List ℤ → List ℤ → Exported
-exported sheet polygons sequences journal rows = record { sheet = sheet; polygons = polygons; sequences = sequences; journal = journal; rows = rows }
-
-abbrev pub byNumbers : Left → Exported
-byNumbers x = exported (sheetFrom (x .answer)) (x .polygons) (x .sequences) (x .journal) (x .rows)
+abbrev pub byNumbers : Left Answer → Left Sheet
+byNumbers x = leaving (sheetFrom (x .answer)) (x .polygons) (x .sequences) (x .journal) (x .rows)
 
 -- a call's exported answer: what the numbering promises of the call, by its numbers
-pub record Exports (l : Lent) (y : Exported) : Type 0 where
-  pub inner : Left
+pub record Exports (l : Lent) (y : Left Sheet) : Type 0 where
+  pub inner : Left Answer
   pub promised : Promised l inner
   pub same : y ≡ byNumbers inner
 

@@ -28,7 +28,7 @@ use Rattle.journal.specs.Layout.{recordSlice}
 use Rattle.sweep.specs.declared.Swept.{Swept}
 use Rattle.sweep.specs.Slices.{room, lentRoom, swept, isDone, listEdges}
 use Rattle.sweep.specs.Lookup.{tables, reading}
-use Rattle.numbering.specs.Outcome.{Lent, leaving, callOf, up, endingBy, leaves, outcome}
+use Rattle.numbering.specs.Outcome.{Lent, leaving, callOf, up, answerBy, leaves, outcome}
 use Rattle.numbering.specs.OnSlices.{sweptUp, readDown, afterSweep, sweeps, inJournal, wholeJournal, sweepsOn}
 use Rattle.sheet.specs.Amounts.{journalNumbersPerEdge, mostEdges}
 use Rattle.steps.specs.Swept.{numbersPerRecord}
@@ -135,4 +135,4 @@ pub when-refused : (l : Lent) (r : Refusal) → checked (callOf l) ≡ check.Ref
 unfolding outcome
 when-refused l r e =
     ap (λ t. leaving (answer.Refused r) (l .polygons) (l .sequences) (cond t (zeros (l .journal)) (l .journal)) (cond t (zeros (l .rows)) (l .rows))) (sym (never-ten (callOf l) e))
-    ∙ ap (λ x. leaves l (answered x (endingBy l (up l .state .end)))) (sym e)
+    ∙ ap (λ x. leaves l (answered x (answerBy l (up l .state .end)))) (sym e)

@@ -20,7 +20,7 @@ use Rattle.sheet.specs.declared.Refusal.{Refusal}
 use Rattle.sheet.specs.declared.Refusal.the-variants.{NoRow}
 use Rattle.sheet.specs.Edges.{edgesIn, drawingOf}
 use Rattle.sheet.specs.Numbering.{Numbering}
-use Rattle.sheet.specs.Answers.{numberOf, checked, answered, followedByZeros}
+use Rattle.sheet.specs.Answers.{numberOf, checked, answered, zeros, followedByZeros}
 use Rattle.sheet.proofs.RowsEnough.{rowsEnough, rows-enough}
 use Rattle.checks.proofs.Passed.{passed}
 use Rattle.steps.specs.declared.End.{End}
@@ -30,8 +30,8 @@ use Rattle.steps.specs.SweepDown.{naturalPart}
 use Rattle.steps.specs.Swept.{rowsIn, readDown, LacksRow}
 use Rattle.steps.proofs.Reaching.{SameRun}
 use Rattle.hartley.proofs.results.Results as results
-use Rattle.numbering.specs.Outcome.{Lent, Left, callOf, up, down, endingBy, leaves, outcome}
-use Rattle.numbering.specs.Promised.{Promised, SameCall, RowsEnough, withRows}
+use Rattle.numbering.specs.Outcome.{Lent, Left, callOf, up, down, answerBy, leaves, outcome, leaving}
+use Rattle.numbering.specs.Promised.{Promised, RowsEnough, withRows}
 use Rattle.numbering.proofs.Leaving.{never-ten}
 use Rattle.numbering.proofs.Renamed.{numbering-same}
 use Rattle.numbering.proofs.Running.{few, ends, numbers, records-and-polygons, outcome-by}
@@ -46,7 +46,7 @@ pub way : (l : Lent) → Way l
 way l = by (checked (callOf l)) refl
   where
     by : (x : Check) → checked (callOf l) ≡ x → Way l
-    by (check.Refused r) e = at-checks r e (unfold outcome in ap (λ x. leaves l (answered x (endingBy l (up l .state .end)))) e)
+    by (check.Refused r) e = at-checks r e (unfold outcome in ap (λ x. leaves l (answered x (answerBy l (up l .state .end)))) e)
     by check.Passed e = ⊎-elim (λ d. done e d (outcome-by l e d)) (λ d. no-row e d (outcome-by l e d)) (ends l e)
 
 -- an accepted call is one whose sweep was done, and its numbers are the sweep's
@@ -72,12 +72,12 @@ accepted-by l p k m q = by (way l)
         record { ok = ok; is-done = d; outcome-is = e; polygons-are = cc; peak-is = cc; records-are = cc }
 
 -- .. its list passed the checks, and its two lists are one number an edge long
-pub record AcceptedCall (l : Lent) (x : Left) : Type 0 where
+pub record AcceptedCall (l : Lent) (x : Left Answer) : Type 0 where
   pub passed-all : checked (callOf l) ≡ check.Passed
   pub polygons-long : length (x .polygons) ≡ edgesIn (l .list)
   pub sequences-long : length (x .sequences) ≡ edgesIn (l .list)
 
-pub accepted-call : {l : Lent} {x : Left} {p k m : ℕ} → x ≡ outcome l → x .answer ≡ Accepted p k m → AcceptedCall l x
+pub accepted-call : {l : Lent} {x : Left Answer} {p k m : ℕ} → x ≡ outcome l → x .answer ≡ Accepted p k m → AcceptedCall l x
 accepted-call {l} {x} {p} {k} {m} e q =
     let A = accepted-by l p k m (sym (ap (λ y. y .answer) e) ∙ q) in
     rw (e, A .outcome-is) (record { passed-all = A .ok; polygons-long = length-listOf (λ i. down l .answers i .polygon) (edgesIn (l .list)); sequences-long = length-listOf (λ i. naturalPart (down l .answers i .sequence)) (edgesIn (l .list)) })
@@ -132,28 +132,25 @@ module _ (l : Lent) where
     A : AcceptedBy l p k m
     A = accepted-by l p k m q
 
-    peak-enough : k ≤ rowsIn rows → SameCall (outcome (withRows l rows)) (outcome l)
+    peak-enough : k ≤ rowsIn rows → outcome (withRows l rows) ≡ leaving (outcome l .answer) (outcome l .polygons) (outcome l .sequences) (outcome l .journal) (zeros rows)
     unfolding up down drawingOf
     peak-enough h =
         let S = results.peak-suffices (passed (callOf l) (A .ok) .sheet) (few l (A .ok)) (rowsIn (l .rows)) (rowsIn rows) (A .is-done) (omega (arith, h, A .peak-is)) in
         let o = outcome-by (withRows l rows) (A .ok) (S .end ∙ A .is-done) in
         same o (A .outcome-is) S
       where
-        same : outcome (withRows l rows) ≡ leaves (withRows l rows) (Accepted (down (withRows l rows) .polygons) (up (withRows l rows) .state .peak) (up (withRows l rows) .state .records)) → outcome l ≡ leaves l (Accepted (down l .polygons) (up l .state .peak) (up l .state .records)) → SameRun (up (withRows l rows)) (up l) → SameCall (outcome (withRows l rows)) (outcome l)
+        same : outcome (withRows l rows) ≡ leaves (withRows l rows) (Accepted (down (withRows l rows) .polygons) (up (withRows l rows) .state .peak) (up (withRows l rows) .state .records)) → outcome l ≡ leaves l (Accepted (down l .polygons) (up l .state .peak) (up l .state .records)) → SameRun (up (withRows l rows)) (up l) → outcome (withRows l rows) ≡ leaving (outcome l .answer) (outcome l .polygons) (outcome l .sequences) (outcome l .journal) (zeros rows)
         same o a S =
-            record {
-              answer = ap (λ x. x .answer) o ∙ (λ i. Accepted (readDown (S .journal i) (S .records i) .polygons) (S .peak i) (S .records i)) ∙ sym (ap (λ x. x .answer) a);
-              polygons = ap (λ x. x .polygons) o ∙ (λ i. listOf (λ e. readDown (S .journal i) (S .records i) .answers e .polygon) (edgesIn (l .list))) ∙ sym (ap (λ x. x .polygons) a);
-              sequences = ap (λ x. x .sequences) o ∙ (λ i. listOf (λ e. naturalPart (readDown (S .journal i) (S .records i) .answers e .sequence)) (edgesIn (l .list))) ∙ sym (ap (λ x. x .sequences) a);
-              journal = ap (λ x. x .journal) o ∙ (λ i. followedByZeros (listed (λ j. recordNumbers (S .journal i j)) (S .records i)) (length (l .journal))) ∙ sym (ap (λ x. x .journal) a);
-            }
+            o
+            ∙ (λ i. leaving (Accepted (readDown (S .journal i) (S .records i) .polygons) (S .peak i) (S .records i)) (listOf (λ e. readDown (S .journal i) (S .records i) .answers e .polygon) (edgesIn (l .list))) (listOf (λ e. naturalPart (readDown (S .journal i) (S .records i) .answers e .sequence)) (edgesIn (l .list))) (followedByZeros (listed (λ j. recordNumbers (S .journal i j)) (S .records i)) (length (l .journal))) (zeros rows))
+            ∙ ap (λ z. leaving (z .answer) (z .polygons) (z .sequences) (z .journal) (zeros rows)) (sym a)
 
     fewer-refused : rowsIn rows < k → (e : ℕ) × (outcome (withRows l rows) .answer ≡ Refused (NoRow e))
     unfolding up drawingOf
     fewer-refused h =
         (_, ap (λ x. x .answer) (outcome-by (withRows l rows) (A .ok) (results.fewer-refused (passed (callOf l) (A .ok) .sheet) (few l (A .ok)) (rowsIn (l .rows)) (rowsIn rows) (A .is-done) (omega (arith, h, A .peak-is)))))
 
-pub promised : (l : Lent) (x : Left) → x ≡ outcome l → Promised l x
+pub promised : (l : Lent) (x : Left Answer) → x ≡ outcome l → Promised l x
 promised l x e =
     subst (Promised l) (sym e)
     (record {

@@ -13,7 +13,7 @@ use Rattle.laws.proofs.Listing.{listed-is, list-is}
 use Rattle.sheet.specs.declared.Answer.the-variants.{Accepted, Refused}
 use Rattle.sheet.specs.declared.Check.the-variants.{Passed}
 use Rattle.sheet.specs.declared.Refusal.the-variants.{NoRow}
-use Rattle.sheet.specs.Edges.{Drawing, edgesIn, drawingOf, apartAt}
+use Rattle.sheet.specs.Edges.{Drawing, edgesIn, drawingOf}
 use Rattle.sheet.specs.Numbering.{Numbering}
 use Rattle.sheet.specs.Answers.{checked, answered, followedByZeros}
 use Rattle.sheet.proofs.OneNumbering.{same-polygon, same-sequence, same-polygons}
@@ -28,10 +28,10 @@ use Rattle.steps.specs.Swept.{rowsIn, plainRoom, edgeOf, freeRows, noRecords, n
 use Rattle.steps.proofs.Alike.{Match, Alike, AlikeSweep, start-alike, sweep-alike}
 use Rattle.steps.proofs.AlikeDown.{MatchDown, AlikeReading, down-alike}
 use Rattle.journal.specs.Layout.{recordSlice, recordsIn}
-use Rattle.sweep.specs.Slices.{room, listEdges}
+use Rattle.sweep.specs.Slices.{room, apartAt, listEdges}
 use Rattle.sweep.specs.Lookup.{numbersIn, tables, reading}
 use Rattle.hartley.proofs.results.Results as results
-use Rattle.numbering.specs.Outcome.{Lent, Left, callOf, leaving, up, down, endingBy, leaves, outcome}
+use Rattle.numbering.specs.Outcome.{Lent, Left, callOf, leaving, up, down, answerBy, leaves, outcome}
 use Rattle.numbering.specs.OnSlices as slices
 use Rattle.numbering.specs.OnSlices.{inJournal, wholeJournal, afterSweep, sweepsOn}
 use Rattle.numbering.proofs.Matching.{Ranked, HoldsRows, HoldsRecords, sliceRoom, matched}
@@ -214,9 +214,9 @@ module _ (l : Lent) (ok : checked (callOf l) ≡ Passed) where
       ∙ (λ i. leaving (Refused (NoRow (alike .edge i))) (l .polygons) (l .sequences) (z i) (replicate (length (l .rows)) (pos 0)))
 
   -- what the outcome is, by how the sweep up ends
-  pub outcome-by : {u : End} → up l .state .end ≡ u → outcome l ≡ leaves l (answered Passed (endingBy l u))
+  pub outcome-by : {u : End} → up l .state .end ≡ u → outcome l ≡ leaves l (answered Passed (answerBy l u))
   unfolding outcome
-  outcome-by d = λ i. leaves l (answered (ok i) (endingBy l (d i)))
+  outcome-by d = λ i. leaves l (answered (ok i) (answerBy l (d i)))
 
   pub runs : sweepsOn l ≡ outcome l
   runs = ⊎-elim (λ d. runs-done d ∙ sym (outcome-by d)) (λ d. runs-stopped d ∙ sym (outcome-by d)) ends

@@ -71,7 +71,7 @@ sameAnswer (Refused r) w = eqb (numberOf r) (w .refusal) && eqb (placeOf r) (w .
 right : Expected → Bool
 right w = by (outcome (lentFor w))
   where
-    by : Left → Bool
+    by : Left Answer → Bool
     by x = sameAnswer (x .answer) w && (sameList (x .polygons) (w .polygon) && sameList (x .sequences) (w .sequence))
 
 allRight : List Expected → Bool
@@ -265,7 +265,7 @@ all-worked =
     }
 
 -- engines that cannot keep the promise
-module _ (engine : Lent → Left) (keeps : (l : Lent) → Promised l (engine l)) where
+module _ (engine : Lent → Left Answer) (keeps : (l : Lent) → Promised l (engine l)) where
   -- one that refuses everything
   refuses-everything : ((l : Lent) → (r : Refusal) × (engine l .answer ≡ Refused r)) → ⊥
   refuses-everything f =
@@ -289,7 +289,7 @@ module _ (engine : Lent → Left) (keeps : (l : Lent) → Promised l (engine l))
       omega arith
 
   -- one that is right on the first outline and gives all other edges of a sheet one polygon number, or all other edges one sequence number
-  abbrev Fakes : (Lent → Left → ℕ → ℕ) → ℕ → Type 0
+  abbrev Fakes : (Lent → Left Answer → ℕ → ℕ) → ℕ → Type 0
   Fakes given c = (l : Lent) (p k m : ℕ) → engine l .answer ≡ Accepted p k m → (e : ℕ) → (getD (outcome l .polygons) e 0 ≡ 1 → ⊥) → given l (engine l) e ≡ c
 
   fakes-the-polygons : (c : ℕ) → Fakes (λ l x e. getD (x .polygons) e 0) c → ⊥

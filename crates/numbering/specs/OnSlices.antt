@@ -4,6 +4,7 @@ use Prim.Native.Nat.{ℕ, _*_}
 use mathlib.Core.List.{List}
 use lib.IntN.{ℤ}
 use lib.ListN.{length, take}
+use Rattle.sheet.specs.declared.Answer.{Answer}
 use Rattle.sheet.specs.declared.Answer.the-variants as answer
 use Rattle.sheet.specs.declared.Refusal.{Refusal}
 use Rattle.sheet.specs.declared.Refusal.the-variants.{NoRow}
@@ -29,10 +30,10 @@ unfoldable pub readDown : Lent → Sweep (List ℤ) (List ℤ) → Reading (List
 readDown l w = sweepDown tables recordSlice (w .state .journal) (w .state .records) (reading (w .state .rows) (l .polygons) (l .sequences) 0)
 
 -- a refusal leaves the two number lists, and journal and rows as the answer sheet says
-abbrev pub refused : Lent → Refusal → Left
+abbrev pub refused : Lent → Refusal → Left Answer
 refused l r = record { answer = answer.Refused r; polygons = l .polygons; sequences = l .sequences; journal = afterRefusal r (l .journal); rows = afterRefusal r (l .rows) }
 
-abbrev pub accepted : Lent → Sweep (List ℤ) (List ℤ) → Reading (List ℤ) Answers → Left
+abbrev pub accepted : Lent → Sweep (List ℤ) (List ℤ) → Reading (List ℤ) Answers → Left Answer
 accepted l w d =
     record {
       answer = answer.Accepted (d .polygons) (w .state .peak) (w .state .records);
@@ -43,22 +44,22 @@ accepted l w d =
     }
 
 -- Overrun does not come for a list that passed its checks (crates/hartley); it is answered as a missing row is.
-abbrev pub afterSweep : Lent → Sweep (List ℤ) (List ℤ) → End → Left
+abbrev pub afterSweep : Lent → Sweep (List ℤ) (List ℤ) → End → Left Answer
 afterSweep l w Done = accepted l w (readDown l w)
 afterSweep l w NoFreeRow = refused l (NoRow (w .edge))
 afterSweep l w Overrun = refused l (NoRow (w .edge))
 
-unfoldable pub sweeps : Lent → Left
+unfoldable pub sweeps : Lent → Left Answer
 sweeps l = afterSweep l (sweptUp l) (sweptUp l .state .end)
 
 -- the sweeps work in the journal's first eight numbers an edge, and what lies behind is set to zero
 abbrev pub inJournal : Lent → Lent
 inJournal l = record { list = l .list; polygons = l .polygons; sequences = l .sequences; journal = take (journalNumbersPerEdge * edgesIn (l .list)) (l .journal); rows = l .rows }
 
-abbrev pub wholeJournal : ℕ → Left → Left
+abbrev pub wholeJournal : ℕ → Left Answer → Left Answer
 wholeJournal n x =
     record { answer = x .answer; polygons = x .polygons; sequences = x .sequences; journal = followedByZeros (x .journal) n; rows = x .rows }
 
 -- a list that passed its checks
-abbrev pub sweepsOn : Lent → Left
+abbrev pub sweepsOn : Lent → Left Answer
 sweepsOn l = wholeJournal (length (l .journal)) (sweeps (inJournal l))

@@ -7,8 +7,9 @@ use lib.ListN.{length}
 use Rattle.laws.specs.Listing.{listed, listOf}
 use Rattle.sheet.specs.declared.Answer.{Answer}
 use Rattle.sheet.specs.declared.Answer.the-variants.{Accepted, Refused}
+use Rattle.sheet.specs.declared.Refusal.the-variants.{NoRow}
 use Rattle.sheet.specs.Edges.{edgesIn, drawingOf}
-use Rattle.sheet.specs.Answers.{Call, checked, Ending, finished, noFreeRow, answered, zeros, afterRefusal, followedByZeros}
+use Rattle.sheet.specs.Answers.{Call, checked, answered, zeros, afterRefusal, followedByZeros}
 use Rattle.steps.specs.declared.End.{End}
 use Rattle.steps.specs.declared.End.the-variants.{Done, NoFreeRow, Overrun}
 use Rattle.steps.specs.Rows.{Row, Record, recordNumbers}
@@ -25,8 +26,8 @@ pub record Lent : Type 0 where
   pub rows : List ℤ
 
 -- the answer, and the four slices that may change as they are left
-pub record Left : Type 0 where
-  pub answer : Answer
+pub record Left (A : Type 0) : Type 0 where
+  pub answer : A
   pub polygons : List ℕ
   pub sequences : List ℕ
   pub journal : List ℤ
@@ -42,14 +43,14 @@ up l = sweptTo (drawingOf (l .list)) (rowsIn (l .rows)) (edgesIn (l .list))
 unfoldable pub down : Lent → Reading (ℕ → Pair) (ℕ → Pair)
 down l = readDown (up l .state .journal) (up l .state .records)
 
--- What the steps end with. An overrun never comes where the checks are passed: `lacks-row` in Promised says that 10 is a missing row.
-abbrev pub endingBy : Lent → End → Ending
-endingBy l Done = finished (down l .polygons) (up l .state .peak) (up l .state .records)
-endingBy l NoFreeRow = noFreeRow (up l .edge)
-endingBy l Overrun = noFreeRow (up l .edge)
+-- What the steps answer by their end. An overrun never comes where the checks are passed: `lacks-row` in Promised says that 10 is a missing row.
+abbrev pub answerBy : Lent → End → Answer
+answerBy l Done = Accepted (down l .polygons) (up l .state .peak) (up l .state .records)
+answerBy l NoFreeRow = Refused (NoRow (up l .edge))
+answerBy l Overrun = Refused (NoRow (up l .edge))
 
 -- what an answer leaves in the slices
-abbrev pub leaves : Lent → Answer → Left
+abbrev pub leaves : Lent → Answer → Left Answer
 leaves l (Refused r) =
     record { answer = Refused r; polygons = l .polygons; sequences = l .sequences; journal = afterRefusal r (l .journal); rows = afterRefusal r (l .rows) }
 leaves l (Accepted polygons peak records) =
@@ -61,12 +62,12 @@ leaves l (Accepted polygons peak records) =
       rows = zeros (l .rows);
     }
 
-unfoldable pub outcome : Lent → Left
-outcome l = leaves l (answered (checked (callOf l)) (endingBy l (up l .state .end)))
+unfoldable pub outcome : Lent → Left Answer
+outcome l = leaves l (answered (checked (callOf l)) (answerBy l (up l .state .end)))
 
 -- the slices by name
 abbrev pub lent : List ℤ → List ℕ → List ℕ → List ℤ → List ℤ → Lent
 lent list polygons sequences journal rows = record { list = list; polygons = polygons; sequences = sequences; journal = journal; rows = rows }
 
-abbrev pub leaving : Answer → List ℕ → List ℕ → List ℤ → List ℤ → Left
+abbrev pub leaving : {A : Type 0} → A → List ℕ → List ℕ → List ℤ → List ℤ → Left A
 leaving a polygons sequences journal rows = record { answer = a; polygons = polygons; sequences = sequences; journal = journal; rows = rows }

@@ -4,26 +4,20 @@ use mathlib.Core.Path.{_≡_}
 use mathlib.Core.List.{List}
 use lib.IntN.{ℤ}
 use lib.ListN.{getD}
+use Rattle.sheet.specs.declared.Answer.{Answer}
 use Rattle.sheet.specs.declared.Answer.the-variants.{Accepted, Refused}
 use Rattle.sheet.specs.declared.Check.the-variants.{Passed}
 use Rattle.sheet.specs.declared.Refusal.the-variants.{NoRow}
 use Rattle.sheet.specs.Edges.{edgesIn, drawingOf}
 use Rattle.sheet.specs.Numbering.{Numbering}
 use Rattle.sheet.specs.Passing.{Enough}
-use Rattle.sheet.specs.Answers.{checked}
+use Rattle.sheet.specs.Answers.{checked, zeros}
 use Rattle.steps.specs.Swept.{rowsIn, LacksRow}
-use Rattle.numbering.specs.Outcome.{Lent, Left, callOf, outcome}
+use Rattle.numbering.specs.Outcome.{Lent, Left, callOf, outcome, leaving}
 
 -- the same call with another row table
 abbrev pub withRows : Lent → List ℤ → Lent
 withRows l rows = record { list = l .list; polygons = l .polygons; sequences = l .sequences; journal = l .journal; rows = rows }
-
--- the same answer, the same numbers, the same journal
-pub record SameCall (x y : Left) : Type 0 where
-  pub answer : x .answer ≡ y .answer
-  pub polygons : x .polygons ≡ y .polygons
-  pub sequences : x .sequences ≡ y .sequences
-  pub journal : x .journal ≡ y .journal
 
 -- rows that are always enough for a list, with the numbering that they are counted by
 pub record RowsEnough (l : Lent) : Type 0 where
@@ -34,7 +28,7 @@ pub record RowsEnough (l : Lent) : Type 0 where
   pub rows : ℕ
   pub enough : Enough (drawingOf (l .list)) polygon rows
 
-pub record Promised (l : Lent) (x : Left) : Type 0 where
+pub record Promised (l : Lent) (x : Left Answer) : Type 0 where
   -- the answer and every number of every slice
   pub outcome-is : x ≡ outcome l
   -- demand 2: where it is accepted, the two lists are the numbering of the list
@@ -44,8 +38,8 @@ pub record Promised (l : Lent) (x : Left) : Type 0 where
   -- demand 3: for every list with an edge in which nothing else is at fault there are rows that are enough, and so many are always accepted
   pub enough-there : checked (callOf l) ≡ Passed → 0 < edgesIn (l .list) → RowsEnough l
   pub enough-rows : checked (callOf l) ≡ Passed → (E : RowsEnough l) → E .rows ≤ rowsIn (l .rows) → (polygons : ℕ) × (peak : ℕ) × (records : ℕ) × (x .answer ≡ Accepted polygons peak records)
-  -- the peak is exact: with that many rows or more the same call answers the same, with fewer it is refused
-  pub peak-enough : (polygons peak records : ℕ) → x .answer ≡ Accepted polygons peak records → (rows : List ℤ) → peak ≤ rowsIn rows → SameCall (outcome (withRows l rows)) x
+  -- the peak is exact: with that many rows or more the same call gives the same answer, numbers and journal, with fewer it is refused
+  pub peak-enough : (polygons peak records : ℕ) → x .answer ≡ Accepted polygons peak records → (rows : List ℤ) → peak ≤ rowsIn rows → outcome (withRows l rows) ≡ leaving (x .answer) (x .polygons) (x .sequences) (x .journal) (zeros rows)
   pub fewer-refused : (polygons peak records : ℕ) → x .answer ≡ Accepted polygons peak records → (rows : List ℤ) → rowsIn rows < peak → (e : ℕ) × (outcome (withRows l rows) .answer ≡ Refused (NoRow e))
   -- refusal 10 at an edge, exactly when step 1 finds no free row while that edge is treated
   pub lacks-row : (e : ℕ) → x .answer ≡ Refused (NoRow e) → (checked (callOf l) ≡ Passed) × LacksRow (drawingOf (l .list)) (rowsIn (l .rows)) e

@@ -1,7 +1,7 @@
 -- The two searches stop at the peak or at the last row of the slice, whichever comes first. Past the slice every row looks free, so no tip is found
 -- there, and the first row past it is the lowest free one where all before it are in use.
 use mathlib.Core.Path.{_≡_, refl, ap}
-use mathlib.Core.Bool.{Bool, true, false, not, _&&_}
+use mathlib.Core.Bool.{Bool, true, false, not, _&&_, cond}
 use mathlib.Core.Logic.{⊎-elim}
 use mathlib.Core.List.{List}
 use Prim.Native.Nat.{ℕ, _+_, _*_, _/_, _≤_, _<_, min}
@@ -23,7 +23,7 @@ use Rattle.sheet.specs.Points.{isSame}
 use Rattle.steps.specs.declared.Side.{Side}
 use Rattle.steps.specs.declared.Found.the-variants.{At, Nothing}
 use Rattle.steps.specs.Rows.{on}
-use Rattle.steps.specs.SweepUp.{pickFound, foundBelow, hasTip}
+use Rattle.steps.specs.SweepUp.{foundBelow, hasTip}
 use Rattle.rows.specs.Layout.{pointPlaces, HasRow, lookRow}
 use Rattle.steps.specs.Swept.{numbersPerRow}
 
@@ -45,7 +45,7 @@ found-is : (p : ℕ → Bool) (n r : ℕ) → foundBelow p n ≡ At r → (r < n
 unfolding foundBelow
 found-is p n r e = by (ltb (first p n) n) refl e
   where
-    by : (t : Bool) → ltb (first p n) n ≡ t → pickFound t (first p n) ≡ At r → (r < n) × (p r ≡ true)
+    by : (t : Bool) → ltb (first p n) n ≡ t → cond t (At (first p n)) Nothing ≡ At r → (r < n) × (p r ≡ true)
     by true h q =
         let l : first p n < n = ltb-true _ _ h in
         let i : first p n ≡ r = cc in

@@ -7,8 +7,9 @@ use Prim.Native.Nat.{ℕ, _≤_, _<_}
 use native.Mathlib.Omega.{arith}
 use Rattle.laws.proofs.Deciding.{lt-or-le}
 use Rattle.laws.proofs.Pigeonhole.{reached}
-use Rattle.sheet.specs.Edges.{Drawing, SweepOrder}
-use Rattle.sheet.specs.Kinds.{Sound, below, above, arriving, leaving, comes}
+use Rattle.sheet.specs.Edges.{Drawing}
+use Rattle.sheet.specs.Sound.{SweepOrder, Sound}
+use Rattle.sheet.specs.Kinds.{below, above, arriving, leaving, comes}
 use Rattle.sheet.specs.Joining.{Follows}
 use Rattle.sheet.proofs.Following.{next-exists, next-unique, next-one-to-one}
 

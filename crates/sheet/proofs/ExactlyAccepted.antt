@@ -19,7 +19,8 @@ use Rattle.sheet.specs.declared.TurnRefusal.{TurnRefusal}
 use Rattle.sheet.specs.declared.TurnRefusal.the-variants.{LengthsDiffer, NoPolygon, PairRepeated, Gap}
 use Rattle.sheet.specs.declared.TurnAnswer.{TurnAnswer}
 use Rattle.sheet.specs.declared.TurnAnswer.the-variants.{Accepted}
-use Rattle.sheet.specs.TurnList.{NumberLists, numberLists, noPolygon, pairRepeated, gap, refuseTurn, refuseFirstTurn, lengthsDiffer, turned, GoodNumbering, GoodLists, AcceptsExactly}
+use Rattle.sheet.specs.TurnList.{NumberLists, numberLists, noPolygon, pairRepeated, gap, refuseTurn, refuseFirstTurn, lengthsDiffer, turned, GoodNumbering, GoodLists}
+use Rattle.sheet.specs.Sound.{AcceptsExactly}
 use Rattle.sheet.specs.Amounts.{mostEdges}
 
 -- a test that cannot hold fails, and `a && not b` fails just where a gives b

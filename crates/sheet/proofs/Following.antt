@@ -10,7 +10,8 @@ use borrow.Author.Tests.{eq-eqb, eqb-true}
 use Rattle.laws.proofs.Deciding.{lt-or-le, eq-or-ne}
 use Rattle.laws.proofs.Counting.{count-some, count-two, count-find, count-other}
 use Rattle.sheet.specs.Edges.{Drawing}
-use Rattle.sheet.specs.Kinds.{Way, arriving, leaving, From, below, above, endOf, comes, numberAt, Sound}
+use Rattle.sheet.specs.Kinds.{Way, arriving, leaving, From, below, above, endOf, comes, numberAt}
+use Rattle.sheet.specs.Sound.{Sound}
 use Rattle.sheet.specs.Joining.{goesOn, Follows}
 
 side-or-other : (a b : From) → (a ≡ b) ⊎ (a ≡ b → ⊥)

@@ -1,5 +1,6 @@
 -- What one numbering of a checked list has: from any edge, as many steps back as its sequence number says lead to the edge of its polygon that
 -- has 0, its lead; and the lead leaves the polygon's highest place downwards.
+use mathlib.Core.Bool.{cond}
 use mathlib.Core.Path.{_≡_, refl, ap, sym, _∙_}
 use mathlib.Core.Logic.{⊎-elim}
 use Prim.Native.Nat.{ℕ, zero, suc, _<_}
@@ -7,8 +8,9 @@ use native.Mathlib.Omega.{arith}
 use borrow.Author.Tests.{lt-ltb}
 use Rattle.laws.proofs.Deciding.{eq-or-ne}
 use Rattle.sheet.specs.Edges.{Drawing}
-use Rattle.sheet.specs.Kinds.{below, fromTest, leaving, comes}
-use Rattle.sheet.specs.Joining.{Follows, InOutline, itself, onwards}
+use Rattle.sheet.specs.Kinds.{below, leaving, comes, above}
+use Rattle.sheet.specs.Joining.{Follows}
+use Rattle.sheet.specs.Sound.{InOutline, itself, onwards}
 use Rattle.sheet.specs.Numbering.{Numbering}
 use Rattle.sheet.proofs.Checked.{Checked, Joins, joins}
 
@@ -57,4 +59,4 @@ module _ {sh : Drawing} (K : Checked sh) {polygon sequence : ℕ → ℕ} {polyg
 
   pub lead-from-below : (e : ℕ) → e < sh .edges → sequence e ≡ 0 → comes sh leaving e ≡ below
   unfolding comes
-  lead-from-below e l z = ap fromTest (lt-ltb _ _ (falls e l z))
+  lead-from-below e l z = ap (λ t. cond t below above) (lt-ltb _ _ (falls e l z))

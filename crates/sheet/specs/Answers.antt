@@ -139,16 +139,10 @@ checked c =
     (refuseFirst (uneven (drawingOf (c .list))) (edgesIn (c .list)) Uneven
     check.Passed))))))
 
--- What the steps end with: the numbers returned, or the level-0 edge that was treated when step 1 found no free row.
-pub data Ending : Type 0 where
-  finished : (polygons peak records : ℕ) → Ending
-  noFreeRow : (edge : ℕ) → Ending
-
--- 10: the steps found no free row; tried last
-abbrev pub answered : Check → Ending → Answer
-answered (check.Refused r) sweep = answer.Refused r
-answered check.Passed (noFreeRow e) = answer.Refused (NoRow e)
-answered check.Passed (finished polygons peak records) = answer.Accepted polygons peak records
+-- the checks come first; where they are passed the steps answer, which may still refuse with 10
+abbrev pub answered : Check → Answer → Answer
+answered (check.Refused r) steps = answer.Refused r
+answered check.Passed steps = steps
 
 abbrev pub zeros : List ℤ → List ℤ
 zeros l = replicate (length l) (pos 0)

@@ -4,7 +4,6 @@ use mathlib.Core.Bool.{Bool, false}
 use mathlib.Core.List.{List}
 use lib.IntN.{ℤ, pos}
 use lib.ListN.{getD, length}
-use Rattle.sheet.specs.declared.Point.{Point}
 use Rattle.sheet.specs.declared.Edge.{Edge}
 use Rattle.sheet.specs.Rank.{rank}
 use Rattle.sheet.specs.Amounts.{numbersPerEdge}
@@ -33,18 +32,7 @@ pub record Drawing : Type 0 where
 -- In document 01 a place is a point, by its rank, which is its height too; there is one film, and no place is apart.
 unfoldable pub drawingOf : List ℤ → Drawing
 drawingOf s =
-    record {
-      edges = edgesIn s;
-      tail = λ e. rank (edgeAt s e .tail);
-      head = λ e. rank (edgeAt s e .head);
-      height = λ p. p;
-      film = λ p. 0;
-      apart = λ p. false;
-    }
-
--- which points of a list are apart
-unfoldable pub apartAt : List ℤ → Point → Bool
-apartAt s p = drawingOf s .apart (rank p)
+    record { edges = edgesIn s; tail = λ e. rank (edgeAt s e .tail); head = λ e. rank (edgeAt s e .head); height = λ p. p; film = λ p. 0; apart = λ p. false }
 
 -- how high an edge's top and bottom lie
 abbrev pub topHeight : Drawing → ℕ → ℕ
@@ -52,7 +40,3 @@ topHeight sh e = max (sh .height (sh .tail e)) (sh .height (sh .head e))
 
 abbrev pub bottomHeight : Drawing → ℕ → ℕ
 bottomHeight sh e = min (sh .height (sh .tail e)) (sh .height (sh .head e))
-
--- 01 Points 3.3: along the list the tops never fall
-abbrev pub SweepOrder : Drawing → Type 0
-SweepOrder sh = (e : ℕ) → e + 1 < sh .edges → topHeight sh e ≤ topHeight sh (e + 1)

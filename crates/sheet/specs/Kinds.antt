@@ -1,7 +1,7 @@
 -- The four kinds of an edge at a place, and what a sound list is.
 use Prim.Native.Nat.{ℕ, _<_}
 use mathlib.Core.Path.{_≡_}
-use mathlib.Core.Bool.{Bool, true, false}
+use mathlib.Core.Bool.{cond}
 use lib.Dec.{eqb, ltb}
 use Rattle.laws.specs.Counting.{count}
 use Rattle.sheet.specs.Edges.{Drawing}
@@ -25,19 +25,10 @@ abbrev pub endOf : Drawing → Way → ℕ → ℕ
 endOf sh arriving e = sh .head e
 endOf sh leaving e = sh .tail e
 
-abbrev pub fromTest : Bool → From
-fromTest true = below
-fromTest false = above
-
 -- it comes from below to the place where its other end is lower
 unfoldable pub comes : Drawing → Way → ℕ → From
-comes sh w e = fromTest (ltb (sh .height (endOf sh (otherWay w) e)) (sh .height (endOf sh w e)))
+comes sh w e = cond (ltb (sh .height (endOf sh (otherWay w) e)) (sh .height (endOf sh w e))) below above
 
 -- how many edges arrive at a place, or leave it
 unfoldable pub numberAt : Drawing → Way → ℕ → ℕ
 numberAt sh w p = count (λ e. eqb (endOf sh w e) p) (sh .edges)
-
--- 01 Points 4.3: no two edges of one kind at one place, and at each place the arriving edges are as many as the leaving ones
-pub record Sound (sh : Drawing) : Type 0 where
-  pub single : (w : Way) (e f : ℕ) → e < sh .edges → f < sh .edges → endOf sh w e ≡ endOf sh w f → comes sh w e ≡ comes sh w f → e ≡ f
-  pub even : (p : ℕ) → numberAt sh arriving p ≡ numberAt sh leaving p

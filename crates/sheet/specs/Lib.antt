@@ -9,3 +9,4 @@ pub mod Numbering
 pub mod Passing
 pub mod Answers
 pub mod TurnList
+pub mod Sound

@@ -83,10 +83,6 @@ pub record GoodLists (polygons sequences : List ℕ) (turns n : ℕ) : Type 0 wh
   pub few : length polygons ≤ mostEdges
   pub numbering : GoodNumbering (numberLists polygons sequences) n
 
--- 01: an answer accepts exactly these, each with its number of polygons. `turned` does (proofs/ExactlyAccepted.antt).
-abbrev pub AcceptsExactly : List ℕ → List ℕ → ℕ → TurnAnswer → Type 0
-AcceptsExactly polygons sequences turns r = (n : ℕ) → (r ≡ answer.Accepted n) ↔ GoodLists polygons sequences turns n
-
 -- one edge comes before another: by polygon, and in a polygon by sequence
 abbrev pub Before : NumberLists → ℕ → ℕ → Type 0
 Before v e f = (v .polygon e < v .polygon f) ⊎ ((v .polygon e ≡ v .polygon f) × (v .sequence e < v .sequence f))

@@ -2,7 +2,7 @@
 -- each write and records are kept, every step in one room has its like in the other. So what is shown of plain tables holds of slices. The first run
 -- looks only as far as rows have been opened, and there its reach is its peak; the second may look further, at rows that were never opened.
 use mathlib.Core.Path.{_≡_, refl, sym, ap, _∙_, subst}
-use mathlib.Core.Bool.{Bool, true, false, not, _&&_}
+use mathlib.Core.Bool.{Bool, true, false, not, _&&_, cond}
 use mathlib.Core.Logic.{⊎-elim}
 use Prim.Native.Nat.{ℕ, zero, suc, _+_, max, _≤_, _<_}
 use native.Mathlib.Omega.{arith}
@@ -22,7 +22,7 @@ use Rattle.steps.specs.declared.End.{End}
 use Rattle.steps.specs.declared.End.the-variants.{Done, NoFreeRow, Overrun}
 use Rattle.steps.specs.Rows.{otherSide, on, Branch, Row, Chain, inRow, closing, Record, LevelEdge, Room}
 use Rattle.steps.specs.SweepUp as up
-use Rattle.steps.specs.SweepUp.{State, Sweep, hasTip, asEdge, bottom, top, sideOf, sideTest, longer, chainRecord, foundBelow, mostLength, levels}
+use Rattle.steps.specs.SweepUp.{State, Sweep, hasTip, asEdge, bottom, top, sideOf, longer, chainRecord, foundBelow, mostLength, levels}
 
 -- going on after two treatments that ended alike
 after-both : {A A′ : Type 0} (R : A → A′ → Type 0) {u u′ : End} → u ≡ u′ → {x y : A} {x′ y′ : A′} → R x x′ → (u ≡ Done → R y y′) → R (up.afterDone u x y) (up.afterDone u′ x′ y′)
@@ -38,12 +38,12 @@ found-same : (p q : ℕ → Bool) (n m : ℕ) → ((r : ℕ) → r < n → p r �
 unfolding foundBelow
 found-same p q n m same none = ⊎-elim some nothing (lt-or-le (first p n) n)
   where
-    some : first p n < n → up.pickFound (ltb (first p n) n) (first p n) ≡ up.pickFound (ltb (first q (max n m)) (max n m)) (first q (max n m))
+    some : first p n < n → cond (ltb (first p n) n) (At (first p n)) Nothing ≡ cond (ltb (first q (max n m)) (max n m)) (At (first q (max n m))) Nothing
     some l =
         let e = first-no-further p q n m same l in
         rw (lt-ltb (first p n) n l, lt-ltb (first q (max n m)) (max n m) (omega (arith, l, e)), e)
 
-    nothing : n ≤ first p n → up.pickFound (ltb (first p n) n) (first p n) ≡ up.pickFound (ltb (first q (max n m)) (max n m)) (first q (max n m))
+    nothing : n ≤ first p n → cond (ltb (first p n) n) (At (first p n)) Nothing ≡ cond (ltb (first q (max n m)) (max n m)) (At (first q (max n m))) Nothing
     nothing l =
         let e = first-none q (max n m) (λ r h. ⊎-elim (λ a. sym (same r a) ∙ first-least p n r (omega (arith, a, l))) (λ a. none r a (omega arith)) (lt-or-le r n)) in
         rw (le-ltb (first p n) n l, le-ltb (first q (max n m)) (max n m) (omega (arith, e)))
@@ -257,7 +257,7 @@ module _ {P T J P′ T′ J′ : Type 0} {room : Room P T J} {room′ : Room P�
   move-alike A r side h e l = rw (← e) (with-rows (M .moved (A .rows) h r side _ l) A)
 
   -- a choice between states, made alike
-  pick-alike : {d k : ℕ} (t t′ : Bool) → t ≡ t′ → {x y : State T J} {x′ y′ : State T′ J′} → (t ≡ true → Alike d k x x′) → (t ≡ false → Alike d k y y′) → Alike d k (up.pickState t x y) (up.pickState t′ x′ y′)
+  pick-alike : {d k : ℕ} (t t′ : Bool) → t ≡ t′ → {x y : State T J} {x′ y′ : State T′ J′} → (t ≡ true → Alike d k x x′) → (t ≡ false → Alike d k y y′) → Alike d k (cond t x y) (cond t′ x′ y′)
   pick-alike true true e f g = f refl
   pick-alike true false e f g = absurd (not-both refl e)
   pick-alike false true e f g = absurd (not-both refl (sym e))
@@ -311,7 +311,7 @@ module _ {P T J P′ T′ J′ : Type 0} {room : Room P T J} {room′ : Room P�
   unfolding foundBelow
   found-below test n q h = by (ltb (first test n) n) refl h
     where
-      by : (t : Bool) → ltb (first test n) n ≡ t → up.pickFound t (first test n) ≡ At q → q < n
+      by : (t : Bool) → ltb (first test n) n ≡ t → cond t (At (first test n)) Nothing ≡ At q → q < n
       by true e u = let v : first test n ≡ q = cc in omega (arith, v, ltb-true (first test n) n e)
       by false e u = let z : _≡_ {A = ℕ} 0 1 = cc in absurd (omega arith)
 
@@ -340,7 +340,7 @@ module _ {P T J P′ T′ J′ : Type 0} {room : Room P T J} {room′ : Room P�
       }
 
   -- the next level is treated alike
-  module _ (next : up.Treatment room) (next′ : up.Treatment room′) (alike : (k : ℕ) (s : State T J) (s′ : State T′ J′) (e : LevelEdge P) (e′ : LevelEdge P′) → Alike 0 k s s′ → s .end ≡ Done → AlikeEdge R most e e′ → Alike 0 k (next s e) (next′ s′ e′)) where
+  module _ (next : (State T J → LevelEdge P → State T J)) (next′ : (State T′ J′ → LevelEdge P′ → State T′ J′)) (alike : (k : ℕ) (s : State T J) (s′ : State T′ J′) (e : LevelEdge P) (e′ : LevelEdge P′) → Alike 0 k s s′ → s .end ≡ Done → AlikeEdge R most e e′ → Alike 0 k (next s e) (next′ s′ e′)) where
     pass-up-alike : {k : ℕ} {s : State T J} {s′ : State T′ J′} → Alike 0 k s s′ → s .end ≡ Done → (r : ℕ) → r < k → r ≤ most → Alike 0 k (up.passUp room next s r) (up.passUp room′ next′ s′ r)
     unfolding up.passUp
     pass-up-alike {k} {s} {s′} A done r l m =
@@ -404,7 +404,7 @@ module _ {P T J P′ T′ J′ : Type 0} {room : Room P T J} {room′ : Room P�
         rw (← find-alike A level side (bottom-alike side h)) (in-chain-alike A done level lv side h (up.find room s level side (bottom side e)) (found-in-time s level side (bottom side e)))
 
   side-alike : {e : LevelEdge P} {e′ : LevelEdge P′} → AlikeEdge R most e e′ → sideOf (room .places) e ≡ sideOf (room′ .places) e′
-  side-alike h = λ i. sideTest (M .below (h .tail) (h .head) i)
+  side-alike h = λ i. cond (M .below (h .tail) (h .head) i) Rising Falling
 
   -- every treatment is alike, by the levels left
   treat-alike : (left level : ℕ) → level + left ≤ levels → (k : ℕ) (s : State T J) (s′ : State T′ J′) (e : LevelEdge P) (e′ : LevelEdge P′) → Alike 0 k s s′ → s .end ≡ Done → AlikeEdge R most e e′ → Alike 0 k (up.treat room left level s e) (up.treat room′ left level s′ e′)

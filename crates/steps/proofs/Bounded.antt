@@ -9,7 +9,7 @@ use Rattle.laws.proofs.Largest.{largest-bound}
 use Rattle.steps.specs.declared.End.{End}
 use Rattle.steps.specs.declared.End.the-variants.{Done, NoFreeRow, Overrun}
 use Rattle.steps.specs.Rows.{Chain, inRow, closing, Record, Row, LevelEdge, Room, Journal}
-use Rattle.steps.specs.SweepUp.{State, Sweep, sweepUp, nextEdge, treat, levels, start}
+use Rattle.steps.specs.SweepUp.{State, Sweep, sweepUp, afterDone, treat, levels, start}
 use Rattle.steps.specs.SweepDown.{Tables, Reading, give, shifted, readRecord, sweepDown}
 use Rattle.steps.proofs.Alike.{AlikeRow, AlikeEdge, Match, start-alike, sweep-alike}
 
@@ -61,7 +61,7 @@ edge-within {P} {T} {J} room list s (suc n) = by (sweepUp room list s n .state .
     w : Sweep T J
     w = sweepUp room list s n
 
-    by : (d : End) → w .edge ≤ n → nextEdge d w (treat room levels 0 (w .state) (list n)) n .edge ≤ suc n
+    by : (d : End) → w .edge ≤ n → afterDone d w (record { state = treat room levels 0 (w .state) (list n); edge = n }) .edge ≤ suc n
     by Done h = omega arith
     by NoFreeRow h = omega arith
     by Overrun h = omega arith

@@ -7,7 +7,7 @@ use Rattle.laws.proofs.Deciding.{lt-or-le}
 use Rattle.steps.specs.declared.End.{End}
 use Rattle.steps.specs.declared.End.the-variants.{Done, NoFreeRow, Overrun}
 use Rattle.steps.specs.Rows.{LevelEdge, Room}
-use Rattle.steps.specs.SweepUp.{State, Sweep, sweepUp, treat, levels, nextEdge}
+use Rattle.steps.specs.SweepUp.{State, Sweep, sweepUp, treat, levels, afterDone}
 
 module _ {P T J : Type 0} (room : Room P T J) (list : ℕ → LevelEdge P) (s : State T J) where
   abbrev to : ℕ → Sweep T J
@@ -21,18 +21,18 @@ module _ {P T J : Type 0} (room : Room P T J) (list : ℕ → LevelEdge P) (s : 
     pub before : to e .state .end ≡ Done
     pub lacking : treated e .end ≡ NoFreeRow
 
-  one-more : (n : ℕ) → to (suc n) ≡ nextEdge (to n .state .end) (to n) (treated n) n
+  one-more : (n : ℕ) → to (suc n) ≡ afterDone (to n .state .end) (to n) (record { state = treated n; edge = n })
   unfolding sweepUp
   one-more n = refl
 
   when-done : (n : ℕ) → to n .state .end ≡ Done → to (suc n) ≡ record { state = treated n; edge = n }
-  when-done n d = one-more n ∙ ap (λ u. nextEdge u (to n) (treated n) n) d
+  when-done n d = one-more n ∙ ap (λ u. afterDone u (to n) (record { state = treated n; edge = n })) d
 
   when-stopped : (n : ℕ) → to n .state .end ≡ NoFreeRow → to (suc n) ≡ to n
-  when-stopped n d = one-more n ∙ ap (λ u. nextEdge u (to n) (treated n) n) d
+  when-stopped n d = one-more n ∙ ap (λ u. afterDone u (to n) (record { state = treated n; edge = n })) d
 
   when-overrun : (n : ℕ) → to n .state .end ≡ Overrun → to (suc n) ≡ to n
-  when-overrun n d = one-more n ∙ ap (λ u. nextEdge u (to n) (treated n) n) d
+  when-overrun n d = one-more n ∙ ap (λ u. afterDone u (to n) (record { state = treated n; edge = n })) d
 
   module _ (begins : s .end ≡ Done) where
     pub stops-at : (n : ℕ) → to n .state .end ≡ NoFreeRow → Stops n (to n .edge)

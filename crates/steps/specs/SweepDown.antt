@@ -38,11 +38,7 @@ module _ {T A : Type 0} (tables : Tables T A) where
   abbrev pub readRecord : Reading T A → Record → Chain → Reading T A
   readRecord d entry (inRow r) = give d (entry .level) (entry .name) (shifted (tables .look (d .table) r) (entry .offset))
   readRecord d entry closing =
-      record {
-        table = tables .given (d .table) (entry .name) (record { polygon = d .polygons + 1; sequence = entry .offset });
-        answers = d .answers;
-        polygons = d .polygons + 1;
-      }
+      record { table = tables .given (d .table) (entry .name) (record { polygon = d .polygons + 1; sequence = entry .offset }); answers = d .answers; polygons = d .polygons + 1 }
 
   -- the records below n, from the last to the first
   unfoldable pub sweepDown : {J : Type 0} → Journal J → J → ℕ → Reading T A → Reading T A

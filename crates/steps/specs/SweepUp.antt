@@ -36,10 +36,6 @@ ended e s = record { rows = s .rows; journal = s .journal; records = s .records;
 abbrev pub withRows : {T J : Type 0} → T → State T J → State T J
 withRows t s = record { rows = t; journal = s .journal; records = s .records; reach = s .reach; peak = s .peak; end = s .end }
 
-abbrev pub pickState : {T J : Type 0} → Bool → State T J → State T J → State T J
-pickState true s t = s
-pickState false s t = t
-
 -- go on only where the treatment before is done
 abbrev pub afterDone : {A : Type 0} → End → A → A → A
 afterDone Done s t = t
@@ -51,16 +47,9 @@ pub record Sweep (T J : Type 0) : Type 0 where
   pub state : State T J
   pub edge : ℕ
 
-abbrev pub nextEdge : {T J : Type 0} → End → Sweep T J → State T J → ℕ → Sweep T J
-nextEdge d w s i = afterDone d w (record { state = s; edge = i })
-
-abbrev pub pickFound : Bool → ℕ → Found
-pickFound true r = At r
-pickFound false r = Nothing
-
 -- the first number below n that passes the test
 unfoldable pub foundBelow : (ℕ → Bool) → ℕ → Found
-foundBelow test n = pickFound (ltb (first test n) n) (first test n)
+foundBelow test n = cond (ltb (first test n) n) (At (first test n)) Nothing
 
 -- nothing where the test holds, otherwise what is found
 unfoldable pub pickMeeting : Bool → Found → Found
@@ -72,14 +61,10 @@ abbrev pub signed : Side → ℕ → ℤ
 signed Rising n = pos n
 signed Falling n = negℤ (pos n)
 
-abbrev pub sideTest : Bool → Side
-sideTest true = Rising
-sideTest false = Falling
-
 module _ {P : Type 0} where
   -- an up edge works on the rising side
   abbrev pub sideOf : Places P → LevelEdge P → Side
-  sideOf places e = sideTest (places .below (e .tail) (e .head))
+  sideOf places e = cond (places .below (e .tail) (e .head)) Rising Falling
 
   -- an edge's bottom and top: an up edge has its tail below
   abbrev pub bottom : Side → LevelEdge P → P
@@ -100,13 +85,7 @@ module _ {P : Type 0} where
   -- a finished row as an edge: tail at the falling tip, head at the rising tip, with the row's lengths and name. No branch is finished at a place that is apart.
   unfoldable pub asEdge : ℕ → Row P → LevelEdge P
   asEdge r row =
-      record {
-        name = r;
-        tail = row .branch .falling .tip;
-        head = row .branch .rising .tip;
-        length = record { rising = row .branch .rising .length; falling = row .branch .falling .length };
-        apart = false;
-      }
+      record { name = r; tail = row .branch .falling .tip; head = row .branch .rising .tip; length = record { rising = row .branch .rising .length; falling = row .branch .falling .length }; apart = false }
 
 module _ {P T J : Type 0} (room : Room P T J) where
   abbrev pub look : State T J → ℕ → Row P
@@ -127,26 +106,12 @@ module _ {P T J : Type 0} (room : Room P T J) where
   -- a row opened: both tips at the place, both lengths 0, both unfinished. The peak is the largest number of rows in use.
   unfoldable pub open-row : State T J → ℕ → ℕ → P → State T J
   open-row s r level p =
-      record {
-        rows = room .table .opened (s .rows) r level p;
-        journal = s .journal;
-        records = s .records;
-        reach = max (s .reach) (r + 1);
-        peak = max (s .peak) (inUse s + 1);
-        end = s .end;
-      }
+      record { rows = room .table .opened (s .rows) r level p; journal = s .journal; records = s .records; reach = max (s .reach) (r + 1); peak = max (s .peak) (inUse s + 1); end = s .end }
 
   -- step 2: a record in the journal
   unfoldable pub write : State T J → Record → State T J
   write s entry =
-      record {
-        rows = s .rows;
-        journal = room .journal .written (s .journal) (s .records) entry;
-        records = s .records + 1;
-        reach = s .reach;
-        peak = s .peak;
-        end = s .end;
-      }
+      record { rows = s .rows; journal = room .journal .written (s .journal) (s .records) entry; records = s .records + 1; reach = s .reach; peak = s .peak; end = s .end }
 
   abbrev pub longer : Side → Row P → LevelEdge P → ℕ
   longer side row e = on side (row .branch) .length + e .length .falling + e .length .rising
@@ -163,14 +128,14 @@ module _ {P T J : Type 0} (room : Room P T J) where
   -- steps 2 and 3, where the journal has room and the length fits
   unfoldable pub attach : State T J → ℕ → Side → LevelEdge P → ℕ → State T J
   attach s level side e r =
-      pickState (ltb (s .records) (room .records) && leb (longer side (look s r) e) mostLength)
+      cond (ltb (s .records) (room .records) && leb (longer side (look s r) e) mostLength)
       (move (write s (chainRecord level side (look s r) e r)) r side (top side e) (longer side (look s r) e))
       (ended Overrun s)
 
   -- a closing edge only writes a record, its offset the falling length
   unfoldable pub close : State T J → ℕ → LevelEdge P → State T J
   close s level e =
-      pickState (ltb (s .records) (room .records))
+      cond (ltb (s .records) (room .records))
       (write s (record { level = level; name = e .name; chain = closing; offset = pos (e .length .falling) }))
       (ended Overrun s)
 
@@ -184,57 +149,53 @@ module _ {P T J : Type 0} (room : Room P T J) where
   unfoldable pub free : State T J → ℕ → State T J
   free s r = withRows (room .table .freed (s .rows) r) s
 
-  -- how an edge of the next level is treated
-  abbrev pub Treatment : Type 0
-  Treatment = State T J → LevelEdge P → State T J
-
   -- a row that was passed up is freed when its edge is treated
   abbrev pub thenFree : State T J → ℕ → State T J
   thenFree s r = afterDone (s .end) s (free s r)
 
-  -- a row with both branches finished is passed up and then freed
-  unfoldable pub passUp : Treatment → State T J → ℕ → State T J
-  passUp next s r = pickState (bothFinished (look s r)) (thenFree (next s (asEdge r (look s r))) r) s
+  -- a row with both branches finished is passed up and then freed; `next` is how an edge of the next level is treated
+  unfoldable pub passUp : (State T J → LevelEdge P → State T J) → State T J → ℕ → State T J
+  passUp next s r = cond (bothFinished (look s r)) (thenFree (next s (asEdge r (look s r))) r) s
 
   -- the found row q first, then this row r; once where they are one
-  unfoldable pub passBoth : Treatment → State T J → ℕ → ℕ → State T J
+  unfoldable pub passBoth : (State T J → LevelEdge P → State T J) → State T J → ℕ → ℕ → State T J
   passBoth next s q r =
-      pickState (eqb q r) (passUp next s q)
+      cond (eqb q r) (passUp next s q)
       (afterDone (passUp next s q .end) (passUp next s q) (passUp next (passUp next s q) r))
 
-  unfoldable pub meet : Treatment → State T J → Side → ℕ → Found → State T J
+  unfoldable pub meet : (State T J → LevelEdge P → State T J) → State T J → Side → ℕ → Found → State T J
   meet next s side r Nothing = s
   meet next s side r (At q) = passBoth next (finish (finish s q (otherSide side)) r side) q r
 
   -- steps 2 to 4 on a row
-  unfoldable pub onRow : Treatment → State T J → ℕ → Side → LevelEdge P → ℕ → State T J
+  unfoldable pub onRow : (State T J → LevelEdge P → State T J) → State T J → ℕ → Side → LevelEdge P → ℕ → State T J
   onRow next s level side e r =
       afterDone (attach s level side e r .end) (attach s level side e r)
       (meet next (attach s level side e r) side r (meeting (attach s level side e r) level side e))
 
   -- step 1 and what follows: the row found, or the lowest free row opened, or no row
-  unfoldable pub inChain : Treatment → State T J → ℕ → Side → LevelEdge P → Found → State T J
+  unfoldable pub inChain : (State T J → LevelEdge P → State T J) → State T J → ℕ → Side → LevelEdge P → Found → State T J
   inChain next s level side e (At r) = onRow next s level side e r
   inChain next s level side e Nothing =
-      pickState (ltb (lowestFree s) (room .rows))
+      cond (ltb (lowestFree s) (room .rows))
       (onRow next (open-row s (lowestFree s) level (bottom side e)) level side e (lowestFree s))
       (ended NoFreeRow s)
 
-  unfoldable pub stepsOn : Treatment → State T J → ℕ → Side → LevelEdge P → State T J
+  unfoldable pub stepsOn : (State T J → LevelEdge P → State T J) → State T J → ℕ → Side → LevelEdge P → State T J
   stepsOn next s level side e = inChain next s level side e (find s level side (bottom side e))
 
   -- an edge of a level with so many levels left above it: equal ends close an outline, otherwise the four steps
   unfoldable pub treat : ℕ → ℕ → State T J → LevelEdge P → State T J
-  treat zero level s e = pickState (room .places .same (e .tail) (e .head)) (close s level e) (ended Overrun s)
+  treat zero level s e = cond (room .places .same (e .tail) (e .head)) (close s level e) (ended Overrun s)
   treat (suc left) level s e =
-      pickState (room .places .same (e .tail) (e .head)) (close s level e)
+      cond (room .places .same (e .tail) (e .head)) (close s level e)
       (stepsOn (treat left (suc level)) s level (sideOf (room .places) e) e)
 
   -- the first i edges of a list, treated in order at level 0
   unfoldable pub sweepUp : (ℕ → LevelEdge P) → State T J → ℕ → Sweep T J
   sweepUp list s zero = record { state = s; edge = 0 }
   sweepUp list s (suc i) =
-      nextEdge (sweepUp list s i .state .end) (sweepUp list s i) (treat levels 0 (sweepUp list s i .state) (list i)) i
+      afterDone (sweepUp list s i .state .end) (sweepUp list s i) (record { state = treat levels 0 (sweepUp list s i .state) (list i); edge = i })
 
 -- an edge of the list at level 0: falling length 0, rising length 1; which places are apart is a matter of the list
 abbrev pub listEdge : {P : Type 0} → Places P → (P → Bool) → ℕ → P → P → LevelEdge P

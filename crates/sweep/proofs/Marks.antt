@@ -1,6 +1,6 @@
 -- Marks through the treatment: what leaves rows and peak leaves the marks good, and a row that is found or opened is of the level that it was looked for.
 use mathlib.Core.Path.{_≡_, refl, ap}
-use mathlib.Core.Bool.{Bool, true, false, not}
+use mathlib.Core.Bool.{Bool, true, false, not, cond}
 use mathlib.Core.List.{List}
 use Prim.Native.Nat.{ℕ, _≤_}
 use native.Mathlib.Omega.{arith}
@@ -31,7 +31,7 @@ unfolding up.close up.write
 closing-peak a b s level e = by (ltb (s .records) (lentRoom a b .records))
   where
     by : (t : Bool) →
-        up.pickState t (up.write (lentRoom a b) (state a b s) (record { level = level; name = e .name; chain = closing; offset = pos (e .length .falling) })) (up.ended Overrun (state a b s)) .peak ≡ s .peak
+        cond t (up.write (lentRoom a b) (state a b s) (record { level = level; name = e .name; chain = closing; offset = pos (e .length .falling) })) (up.ended Overrun (state a b s)) .peak ≡ s .peak
     by true = refl
     by false = refl
 

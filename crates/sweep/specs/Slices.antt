@@ -5,7 +5,8 @@ use mathlib.Core.Bool.{Bool, true, false}
 use mathlib.Core.List.{List}
 use lib.IntN.{ℤ}
 use Rattle.sheet.specs.declared.Point.{Point}
-use Rattle.sheet.specs.Edges.{edgeAt, apartAt}
+use Rattle.sheet.specs.Rank.{rank}
+use Rattle.sheet.specs.Edges.{edgeAt, drawingOf}
 use Rattle.steps.specs.declared.End.{End}
 use Rattle.steps.specs.declared.End.the-variants.{Done, NoFreeRow, Overrun}
 use Rattle.steps.specs.Rows.{LevelEdge, Room}
@@ -33,6 +34,10 @@ state a b s = record { rows = a; journal = b; records = s .records; reach = s .p
 
 abbrev pub edgeOf : NamedEdge → LevelEdge Point
 edgeOf e = record { name = e .name; tail = e .tail; head = e .head; length = record { rising = e .rising; falling = e .falling }; apart = e .apart }
+
+-- which points of a list are apart
+unfoldable pub apartAt : List ℤ → Point → Bool
+apartAt s p = drawingOf s .apart (rank p)
 
 -- the edges of a list at level 0
 abbrev pub listEdges : List ℤ → ℕ → LevelEdge Point

@@ -12,7 +12,8 @@ use Rattle.sheet.specs.declared.TurnRefusal.{TurnRefusal}
 use Rattle.sheet.specs.declared.TurnRefusal.the-variants.{LengthsDiffer, NoPolygon, PairRepeated, Gap}
 use Rattle.sheet.specs.declared.TurnAnswer.{TurnAnswer}
 use Rattle.sheet.specs.declared.TurnAnswer.the-variants.{Accepted, Refused}
-use Rattle.sheet.specs.TurnList.{NumberLists, numberLists, noPolygon, pairRepeated, gap, refuseFirstTurn, lengthsDiffer, turned, AcceptsExactly}
+use Rattle.sheet.specs.TurnList.{NumberLists, numberLists, noPolygon, pairRepeated, gap, refuseFirstTurn, lengthsDiffer, turned}
+use Rattle.sheet.specs.Sound.{AcceptsExactly}
 use Rattle.sheet.proofs.ExactlyAccepted.{accepts-exactly}
 use Rattle.turns.specs.Keys.{Sizes}
 use Rattle.turns.specs.Answers.{withoutPolygon, numbersTurned}

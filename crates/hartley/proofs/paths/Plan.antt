@@ -1,7 +1,7 @@
 -- A list of edges with its joins as functions, and what the theory asks of it, said over the side: an up edge climbs on the rising side, a down edge on the
 -- falling side, and what holds at one holds at the other. A checked list has it all (`lawful`); nothing above this file looks at how edges join.
 use mathlib.Core.Path.{_≡_, ap, sym, _∙_}
-use mathlib.Core.Bool.{true, false}
+use mathlib.Core.Bool.{true, false, cond}
 use mathlib.Core.Logic.{inl, ⊎-elim}
 use Prim.Native.Nat.{ℕ, zero, suc, _+_, _-_, _≤_, _<_}
 use native.Mathlib.Omega.{arith}
@@ -11,7 +11,7 @@ use Rattle.steps.specs.declared.Side.{Side}
 use Rattle.steps.specs.declared.Side.the-variants.{Rising, Falling}
 use Rattle.steps.specs.Rows.{otherSide}
 use Rattle.sheet.specs.Edges.{Drawing, topHeight}
-use Rattle.sheet.specs.Kinds.{Way, arriving, leaving, otherWay, below, above, fromTest, endOf, comes}
+use Rattle.sheet.specs.Kinds.{Way, arriving, leaving, otherWay, below, above, endOf, comes}
 use Rattle.sheet.specs.Joining.{Follows}
 use Rattle.sheet.proofs.Checked.{Checked, Joins, joins}
 use Rattle.sheet.proofs.Following.{own-side-joins}
@@ -82,11 +82,11 @@ planOf {sh} K = record { list = sh; next = joins (K .sound) .next; prev = joins 
 module _ (sh : Drawing) (w : Way) (e : ℕ) where
   from-below : sh .height (endOf sh (otherWay w) e) < sh .height (endOf sh w e) → comes sh w e ≡ below
   unfolding comes
-  from-below h = ap fromTest (lt-ltb _ _ h)
+  from-below h = ap (λ t. cond t below above) (lt-ltb _ _ h)
 
   from-above : sh .height (endOf sh w e) ≤ sh .height (endOf sh (otherWay w) e) → comes sh w e ≡ above
   unfolding comes
-  from-above h = ap fromTest (le-ltb _ _ h)
+  from-above h = ap (λ t. cond t below above) (le-ltb _ _ h)
 
   is-above : comes sh w e ≡ above → sh .height (endOf sh w e) ≤ sh .height (endOf sh (otherWay w) e)
   is-above h = ⊎-elim (λ l. let q = from-below l in let z : _≡_ {A = ℕ} 0 1 = cc in absurd (omega arith)) (λ l. l) (lt-or-le _ _)

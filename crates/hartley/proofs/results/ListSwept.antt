@@ -15,7 +15,7 @@ use Rattle.steps.specs.declared.Side.the-variants.{Rising, Falling}
 use Rattle.steps.specs.declared.End.{End}
 use Rattle.steps.specs.declared.End.the-variants.{Done, NoFreeRow}
 use Rattle.steps.specs.Rows.{otherSide, on, Row, Record}
-use Rattle.steps.specs.SweepUp.{Sweep, start, sweepUp, treat, levels, nextEdge, bottom, top}
+use Rattle.steps.specs.SweepUp.{Sweep, start, sweepUp, treat, levels, afterDone, bottom, top}
 use Rattle.steps.specs.Swept.{edgeOf}
 use Rattle.hartley.specs.Swept.{sweptTo}
 use Rattle.hartley.proofs.paths.Plan.{Plan, Lawful, uneven, height, tip, Climbs}
@@ -247,8 +247,8 @@ module _ (A : Setting) where
     abbrev at : ℕ → Sweep (ℕ → Row ℕ) (ℕ → Record)
     at k = sweptTo (A .sheet) (A .rows) (A .records) t j k
 
-    next-state : (w : Sweep (ℕ → Row ℕ) (ℕ → Record)) (s : Work) (i : ℕ) (d : End) → w .state .end ≡ d → nextEdge (w .state .end) w s i .state ≡ nextEdge d w s i .state
-    next-state w s i d e = ap (λ x. nextEdge x w s i .state) e
+    next-state : (w : Sweep (ℕ → Row ℕ) (ℕ → Record)) (s : Work) (i : ℕ) (d : End) → w .state .end ≡ d → afterDone (w .state .end) w (record { state = s; edge = i }) .state ≡ afterDone d w (record { state = s; edge = i }) .state
+    next-state w s i d e = ap (λ x. afterDone x w (record { state = s; edge = i }) .state) e
 
     pub sweep-result : (i : ℕ) (l : i < A .sheet .edges) → Result i l (at (suc i) .state)
     unfolding sweepUp
@@ -258,6 +258,6 @@ module _ (A : Setting) where
         s′ : Work
         s′ = treat (roomIn A) levels 0 (at (suc i) .state) (edgeOf (A .sheet) (suc i))
 
-        by : {m : i < A .sheet .edges} → Result i m (at (suc i) .state) → Result (suc i) l (nextEdge (at (suc i) .state .end) (at (suc i)) s′ (suc i) .state)
+        by : {m : i < A .sheet .edges} → Result i m (at (suc i) .state) → Result (suc i) l (afterDone (at (suc i) .state .end) (at (suc i)) (record { state = s′; edge = suc i }) .state)
         by (stopped e k h c) = rw (next-state (at (suc i)) s′ (suc i) NoFreeRow e) (stopped e k h c)
         by {m} (past B G Q) = rw (next-state (at (suc i)) s′ (suc i) Done (Q .inv .is-done)) (treated (suc i) l (at (suc i) .state) B G (onwards i l m (at (suc i) .state) B G Q))

@@ -2,7 +2,7 @@
 -- when its peak would pass the rows lent. A run with n rows is therefore the run with any larger number of rows until that one's peak passes n, and
 -- ends there without a free row. Said of any places, tables and journals.
 use mathlib.Core.Path.{_≡_, refl, ap, sym, _∙_, subst}
-use mathlib.Core.Bool.{Bool, true, false, _&&_}
+use mathlib.Core.Bool.{Bool, true, false, _&&_, cond}
 use mathlib.Core.Logic.{_⊎_, ⊎-elim}
 use Prim.Native.Nat.{ℕ, zero, suc, _≤_, _<_}
 use native.Mathlib.Omega.{arith}
@@ -17,7 +17,7 @@ use Rattle.steps.specs.declared.End.{End}
 use Rattle.steps.specs.declared.End.the-variants.{Done, NoFreeRow, Overrun}
 use Rattle.steps.specs.Rows.{otherSide, LevelEdge, closing, Places, Table, Journal, Room}
 use Rattle.steps.specs.SweepUp as up
-use Rattle.steps.specs.SweepUp.{State, Sweep, asEdge, bothFinished, levels, mostLength}
+use Rattle.steps.specs.SweepUp.{State, Sweep, afterDone, asEdge, bothFinished, levels, mostLength}
 use Rattle.laws.proofs.Lowest.{lowest-is}
 
 module _ {P T J : Type 0} (places : Places P) (table : Table P T) (journal : Journal J) (records : ℕ) where
@@ -28,7 +28,7 @@ module _ {P T J : Type 0} (places : Places P) (table : Table P T) (journal : Jou
   S = State T J
 
   -- an edge put into a row, and a closing edge, leave the peak
-  pick-peak : (t : Bool) (a b : S) (k : ℕ) → a .reach ≡ k → b .reach ≡ k → up.pickState t a b .reach ≡ k
+  pick-peak : (t : Bool) (a b : S) (k : ℕ) → a .reach ≡ k → b .reach ≡ k → cond t a b .reach ≡ k
   pick-peak true a b k u v = u
   pick-peak false a b k u v = v
 
@@ -50,7 +50,7 @@ module _ {P T J : Type 0} (places : Places P) (table : Table P T) (journal : Jou
     after-grows p b c u v NoFreeRow = u
     after-grows p b c u v Overrun = u
 
-    pick-grows : (p : ℕ) (b c : S) → p ≤ b .reach → p ≤ c .reach → (t : Bool) → p ≤ up.pickState t b c .reach
+    pick-grows : (p : ℕ) (b c : S) → p ≤ b .reach → p ≤ c .reach → (t : Bool) → p ≤ cond t b c .reach
     pick-grows p b c u v true = u
     pick-grows p b c u v false = v
 
@@ -105,7 +105,7 @@ module _ {P T J : Type 0} (places : Places P) (table : Table P T) (journal : Jou
         w : Sweep T J
         w = up.sweepUp (room n) list s i
 
-        by : (d : End) → s .reach ≤ w .state .reach → s .reach ≤ up.nextEdge d w (up.treat (room n) levels 0 (w .state) (list i)) i .state .reach
+        by : (d : End) → s .reach ≤ w .state .reach → s .reach ≤ afterDone d w (record { state = up.treat (room n) levels 0 (w .state) (list i); edge = i }) .state .reach
         by Done h = omega (arith, h, treat-grows levels 0 (w .state) (list i))
         by NoFreeRow h = h
         by Overrun h = h
@@ -142,7 +142,7 @@ module _ {P T J : Type 0} (places : Places P) (table : Table P T) (journal : Jou
           beyond = λ k. ap (λ d. up.afterDone d x (f x) .end) (c .beyond l) ∙ c .beyond l;
         }
 
-    pick-cut : {a b c d : S} (t : Bool) → Cut a c → Cut b d → Cut (up.pickState t a b) (up.pickState t c d)
+    pick-cut : {a b c d : S} (t : Bool) → Cut a c → Cut b d → Cut (cond t a b) (cond t c d)
     pick-cut true u v = u
     pick-cut false u v = v
 
@@ -184,7 +184,7 @@ module _ {P T J : Type 0} (places : Places P) (table : Table P T) (journal : Jou
           s₁ = up.open-row (room n) s r level (up.bottom side e)
 
           Goal : Bool → Bool → Type 0
-          Goal t u = Cut (up.pickState t (up.onRow (room n) next s₁ level side e r) (up.ended NoFreeRow s)) (up.pickState u (up.onRow (room n′) next′ s₁ level side e r) (up.ended NoFreeRow s))
+          Goal t u = Cut (cond t (up.onRow (room n) next s₁ level side e r) (up.ended NoFreeRow s)) (cond u (up.onRow (room n′) next′ s₁ level side e r) (up.ended NoFreeRow s))
 
           both-open : r < n → s₁ .reach ≤ n → Goal (ltb r n) (ltb r n′)
           both-open h k = rw (lt-ltb r n h, lt-ltb r n′ (omega arith)) (row-cut s₁ level side e r k)
@@ -214,7 +214,7 @@ module _ {P T J : Type 0} (places : Places P) (table : Table P T) (journal : Jou
       pub beyond : n < y .state .reach → x .state .end ≡ NoFreeRow
 
     next-cut : (list : ℕ → LevelEdge P) (i : ℕ) (x y : Sweep T J) → SweepCut x y
-        → SweepCut (up.nextEdge (x .state .end) x (up.treat (room n) levels 0 (x .state) (list i)) i) (up.nextEdge (y .state .end) y (up.treat (room n′) levels 0 (y .state) (list i)) i)
+        → SweepCut (afterDone (x .state .end) x (record { state = up.treat (room n) levels 0 (x .state) (list i); edge = i })) (afterDone (y .state .end) y (record { state = up.treat (room n′) levels 0 (y .state) (list i); edge = i }))
     next-cut list i x y c = ⊎-elim far near (lt-or-le n (y .state .reach))
       where
         f : Sweep T J → S
@@ -224,25 +224,25 @@ module _ {P T J : Type 0} (places : Places P) (table : Table P T) (journal : Jou
         g w = up.treat (room n′) levels 0 (w .state) (list i)
 
         Goal : Sweep T J → End → Type 0
-        Goal w d = SweepCut (up.nextEdge d w (f w) i) (up.nextEdge d y (g y) i)
+        Goal w d = SweepCut (afterDone d w (record { state = f w; edge = i })) (afterDone d y (record { state = g y; edge = i }))
 
         same : (d : End) → y .state .reach ≤ n → Goal y d
         same Done l = let t = treat-cut levels 0 (y .state) (list i) l in record { within = λ h. ap (λ s. record { state = s; edge = i }) (t .within h); beyond = t .beyond }
         same NoFreeRow l = record { within = λ h. refl; beyond = λ h. absurd (omega arith) }
         same Overrun l = record { within = λ h. refl; beyond = λ h. absurd (omega arith) }
 
-        near : y .state .reach ≤ n → SweepCut (up.nextEdge (x .state .end) x (f x) i) (up.nextEdge (y .state .end) y (g y) i)
-        near l = subst (λ w. SweepCut (up.nextEdge (w .state .end) w (f w) i) (up.nextEdge (y .state .end) y (g y) i)) (sym (c .within l)) (same (y .state .end) l)
+        near : y .state .reach ≤ n → SweepCut (afterDone (x .state .end) x (record { state = f x; edge = i })) (afterDone (y .state .end) y (record { state = g y; edge = i }))
+        near l = subst (λ w. SweepCut (afterDone (w .state .end) w (record { state = f w; edge = i })) (afterDone (y .state .end) y (record { state = g y; edge = i }))) (sym (c .within l)) (same (y .state .end) l)
 
-        high : (d : End) → n < y .state .reach → n < up.nextEdge d y (g y) i .state .reach
+        high : (d : End) → n < y .state .reach → n < afterDone d y (record { state = g y; edge = i }) .state .reach
         high Done l = omega (arith, treat-grows n′ levels 0 (y .state) (list i))
         high NoFreeRow l = l
         high Overrun l = l
 
-        far : n < y .state .reach → SweepCut (up.nextEdge (x .state .end) x (f x) i) (up.nextEdge (y .state .end) y (g y) i)
+        far : n < y .state .reach → SweepCut (afterDone (x .state .end) x (record { state = f x; edge = i })) (afterDone (y .state .end) y (record { state = g y; edge = i }))
         far l = record {
           within = λ k. absurd (omega (arith, high (y .state .end) l));
-          beyond = λ k. ap (λ d. up.nextEdge d x (f x) i .state .end) (c .beyond l) ∙ c .beyond l;
+          beyond = λ k. ap (λ d. afterDone d x (record { state = f x; edge = i }) .state .end) (c .beyond l) ∙ c .beyond l;
         }
 
     -- the first i edges swept with n rows and with n′

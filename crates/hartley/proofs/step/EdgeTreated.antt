@@ -1,7 +1,7 @@
 -- Treating an edge of any level at plain tables keeps the invariant, by induction on the levels left. Levels do not run out, since an edge that does not close has
 -- an outline with room for one level more. Where no row is free the edge is followed with one row more, and then all the rows are in use: `Crowded`.
 use mathlib.Core.Path.{_≡_, refl, ap, sym, _∙_, subst, subst₂}
-use mathlib.Core.Bool.{Bool, true, false}
+use mathlib.Core.Bool.{Bool, true, false, cond}
 use mathlib.Core.List.{List, _∷_}
 use mathlib.Core.Logic.{_⊎_, ⊎-elim}
 use Prim.Native.Nat.{ℕ, zero, suc, _+_, _≤_, _<_}
@@ -21,7 +21,7 @@ use Rattle.steps.specs.declared.End.the-variants.{Done, NoFreeRow, Overrun}
 use Rattle.steps.specs.Rows as steps
 use Rattle.steps.specs.Rows.{otherSide, on, Row, Record, LevelEdge, Room}
 use Rattle.steps.specs.SweepUp as up
-use Rattle.steps.specs.SweepUp.{asEdge, bothFinished, sideTest, bottom, top}
+use Rattle.steps.specs.SweepUp.{asEdge, bothFinished, bottom, top}
 use Rattle.steps.specs.Plain as plain
 use Rattle.steps.specs.Plain.{plainTable, newRow, freeRow}
 use Rattle.hartley.proofs.paths.Plan.{Plan, Lawful, height}
@@ -107,7 +107,7 @@ module _ (A : Setting) {p h : ℕ} (E : Time (plan A) p h) where
         seen : tableOf s q ≡ s .rows q
         seen = view-in (s .rows) (s .reach) q (view-used (s .rows) (s .reach) q u .0)
 
-        by : (b : Bool) → bothFinished (s .rows q) ≡ b → After s q B X (up.pickState b (up.thenFree room (next s (asEdge q (s .rows q))) q) s)
+        by : (b : Bool) → bothFinished (s .rows q) ≡ b → After s q B X (cond b (up.thenFree room (next s (asEdge q (s .rows q))) q) s)
         by false f = done B X I refl (skipped (λ w. let v : Whole (s .rows q) = rw seen at w in not-both (rw (v .finished Rising, v .finished Falling) refl) f) (suc level) X C)
         by true f =
             let v = both-true (s .rows q .branch .rising .finished) _ f in
@@ -264,7 +264,7 @@ module _ (A : Setting) {p h : ℕ} (E : Time (plan A) p h) where
         unfolding up.passBoth
         both-outcome = subst (λ m. Outcome A E (up.passBoth room next b₁ q r) m (λ B′ G′. Kept level y (tableOf s) (tableOf (up.passBoth room next b₁ q r)) B B′ G G′)) listed-b (by (eqb q r) refl)
           where
-            by : (t : Bool) → eqb q r ≡ t → Result (up.pickState t (up.passUp room next b₁ q) (up.afterDone (up.passUp room next b₁ q .end) (up.passUp room next b₁ q) (up.passUp room next (up.passUp room next b₁ q) r)))
+            by : (t : Bool) → eqb q r ≡ t → Result (cond t (up.passUp room next b₁ q) (up.afterDone (up.passUp room next b₁ q .end) (up.passUp room next b₁ q) (up.passUp room next (up.passUp room next b₁ q) r)))
             by true f = once (eqb-true q r f) (up.passUp room next b₁ q) first-pass
             by false f = twice (eqb-false q r f) (up.passUp room next b₁ q) first-pass
 
@@ -373,7 +373,7 @@ module _ (A : Setting) {p h : ℕ} (E : Time (plan A) p h) where
     chain-outcome (At r) q = on-row-outcome level next ih s B G e I P C counted side goes s r (found-slot A E (A .rows) s B G level e (I .state) P C counted side goes r q (I .reach-rows)) (omega (arith, I .reach-records)) (I .is-done)
     chain-outcome Nothing q = by (ltb r₁ (A .rows)) refl
       where
-        by : (t : Bool) → ltb r₁ (A .rows) ≡ t → Ends (up.pickState t (up.onRow room next s₁ level side e r₁) (up.ended NoFreeRow s))
+        by : (t : Bool) → ltb r₁ (A .rows) ≡ t → Ends (cond t (up.onRow room next s₁ level side e r₁) (up.ended NoFreeRow s))
         by true t = opened-outcome q (ltb-true r₁ (A .rows) t)
         by false t = full refl (crowded level next ih s B G e I P C counted side goes q (ltb-false r₁ (A .rows) t))
 
@@ -428,7 +428,7 @@ module _ (A : Setting) {p h : ℕ} (E : Time (plan A) p h) where
   level-left s level e B G I P d = level-small N (A .few) (suc level) (rw (P .level-is) at (invariant.room N E (I .state .frame) (I .state .seams) (ownerOf B level (e .name)) (P .live) (P .both-finished) (λ q. d (sym (P .end-is Falling) ∙ q ∙ P .end-is Rising))))
 
   goes-on : (s : Work) (level : ℕ) (e : LevelEdge ℕ) (B : Naming) (G : Paths) → Pre sh p h (tableOf s) B G level e → (e .tail ≡ e .head → ⊥) → (t : Bool) → ltb (A .sheet .height (e .tail)) (A .sheet .height (e .head)) ≡ t
-      → height sh (bottom (sideTest t) e) < height sh (top (sideTest t) e)
+      → height sh (bottom (cond t Rising Falling) e) < height sh (top (cond t Rising Falling) e)
   goes-on s level e B G P d true t = ltb-true (A .sheet .height (e .tail)) (A .sheet .height (e .head)) t
   goes-on s level e B G P d false t = ⊎-elim (λ q. absurd (d (P .flat q))) (λ q. omega (arith, ltb-false (A .sheet .height (e .tail)) (A .sheet .height (e .head)) t, q)) (eq-or-ne (A .sheet .height (e .tail)) (A .sheet .height (e .head)))
 
@@ -444,11 +444,11 @@ module _ (A : Setting) {p h : ℕ} (E : Time (plan A) p h) where
   unfolding up.treat
   treat-outcome zero level q s e B G I P C k = by (eqb (e .tail) (e .head)) refl
     where
-      by : (t : Bool) → eqb (e .tail) (e .head) ≡ t → TreatEnds level s e B G (up.pickState t (up.close room s level e) (up.ended Overrun s))
+      by : (t : Bool) → eqb (e .tail) (e .head) ≡ t → TreatEnds level s e B G (cond t (up.close room s level e) (up.ended Overrun s))
       by true t = shuts level s e B G I P C k (eqb-true (e .tail) (e .head) t)
       by false t = absurd (omega (arith, level-left s level e B G I P (eqb-false (e .tail) (e .head) t), q))
   treat-outcome (suc left) level q s e B G I P C k = by (treat-outcome left (suc level) (omega arith)) (eqb (e .tail) (e .head)) refl
     where
-      by : Treats (suc level) (up.treat room left (suc level)) → (t : Bool) → eqb (e .tail) (e .head) ≡ t → TreatEnds level s e B G (up.pickState t (up.close room s level e) (up.stepsOn room (up.treat room left (suc level)) s level (up.sideOf (room .places) e) e))
+      by : Treats (suc level) (up.treat room left (suc level)) → (t : Bool) → eqb (e .tail) (e .head) ≡ t → TreatEnds level s e B G (cond t (up.close room s level e) (up.stepsOn room (up.treat room left (suc level)) s level (up.sideOf (room .places) e) e))
       by ih true t = shuts level s e B G I P C k (eqb-true (e .tail) (e .head) t)
       by ih false t = steps-outcome level (up.treat room left (suc level)) ih s B G e I P C k (up.sideOf (room .places) e) (goes-on s level e B G P (eqb-false (e .tail) (e .head) t) (ltb (A .sheet .height (e .tail)) (A .sheet .height (e .head))) refl)

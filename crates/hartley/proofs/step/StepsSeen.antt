@@ -1,7 +1,7 @@
 -- What each thing that the steps do to a state is to what the theory sees of it: the searches, a row opened, an edge put into a row, two ends finished, a row
 -- freed, an outline closed. Each is the steps' definition read once.
 use mathlib.Core.Path.{_≡_, refl, ap, _∙_}
-use mathlib.Core.Bool.{Bool, true, false, _&&_}
+use mathlib.Core.Bool.{Bool, true, false, _&&_, cond}
 use mathlib.Core.List.{List, _∷_}
 use mathlib.Core.Logic.{_⊎_, inl, inr, ⊎-elim}
 use Prim.Native.Nat.{ℕ, suc, _+_, _≤_, _<_}
@@ -98,7 +98,7 @@ module _ (sh : Drawing) (n m : ℕ) where
 
     pub attach-is : s .records < m → up.longer room side (up.look room s r) e ≤ mostLength → up.attach room s level side e r ≡ attached
     unfolding up.attach
-    attach-is a b = ap (λ t. up.pickState t attached (up.ended Overrun s)) (both (lt-ltb _ _ a) (le-leb _ _ b))
+    attach-is a b = ap (λ t. cond t attached (up.ended Overrun s)) (both (lt-ltb _ _ a) (le-leb _ _ b))
       where
         both : {x y : Bool} → x ≡ true → y ≡ true → (x && y) ≡ true
         both p q = rw (p, q)
@@ -147,7 +147,7 @@ module _ (sh : Drawing) (n m : ℕ) where
 
     pub close-is : s .records < m → up.close room s level e ≡ closed
     unfolding up.close
-    close-is a = ap (λ t. up.pickState t closed (up.ended Overrun s)) (lt-ltb _ _ a)
+    close-is a = ap (λ t. cond t closed (up.ended Overrun s)) (lt-ltb _ _ a)
 
     pub closed-rest : (tableOf closed ≡ tableOf s) × (closed .reach ≡ s .reach) × (closed .records ≡ s .records + 1) × (closed .end ≡ s .end)
     unfolding up.write

@@ -1,7 +1,7 @@
 -- The plain table of a state as the theory sees it: rows that the peak has not reached are not in use, whatever the table holds there. What the steps do to a
 -- row below the peak they do to what is seen; what a search finds is a tip there.
 use mathlib.Core.Path.{_≡_, refl, ap, sym, _∙_, fun-ext}
-use mathlib.Core.Bool.{Bool, true, false, not, _&&_}
+use mathlib.Core.Bool.{Bool, true, false, not, _&&_, cond}
 use mathlib.Core.Logic.{_⊎_, ⊎-elim}
 use Prim.Native.Nat.{ℕ, _≤_, _<_}
 use native.Mathlib.Omega.{arith}
@@ -14,7 +14,7 @@ use Rattle.sheet.specs.Edges.{Drawing}
 use Rattle.steps.specs.declared.Side.{Side}
 use Rattle.steps.specs.declared.Found.the-variants.{At, Nothing}
 use Rattle.steps.specs.Rows.{otherSide, on, Row, LevelEdge}
-use Rattle.steps.specs.SweepUp.{foundBelow, pickFound, hasTip}
+use Rattle.steps.specs.SweepUp.{foundBelow, hasTip}
 use Rattle.steps.specs.Plain.{put, withBranch, freeRow}
 use Rattle.steps.specs.Swept.{placesOf}
 use Rattle.hartley.proofs.paths.TableWritten.{put-at, put-off}
@@ -80,7 +80,7 @@ module _ (test : ℕ → Bool) (n : ℕ) where
   unfolding foundBelow
   found-at r e = by (ltb (first test n) n) refl e
     where
-      by : (b : Bool) → ltb (first test n) n ≡ b → pickFound b (first test n) ≡ At r → (r < n) × (test r ≡ true)
+      by : (b : Bool) → ltb (first test n) n ≡ b → cond b (At (first test n)) Nothing ≡ At r → (r < n) × (test r ≡ true)
       by false f h = let z : _≡_ {A = ℕ} 0 1 = cc in absurd (omega arith)
       by true f h = let q : first test n ≡ r = cc in let l = ltb-true (first test n) n f in (omega arith, ap test (sym q) ∙ first-holds test n l)
 
@@ -88,7 +88,7 @@ module _ (test : ℕ → Bool) (n : ℕ) where
   unfolding foundBelow
   found-none e r l = by (ltb (first test n) n) refl e
     where
-      by : (b : Bool) → ltb (first test n) n ≡ b → pickFound b (first test n) ≡ Nothing → test r ≡ false
+      by : (b : Bool) → ltb (first test n) n ≡ b → cond b (At (first test n)) Nothing ≡ Nothing → test r ≡ false
       by true f h = let z : _≡_ {A = ℕ} 0 1 = cc in absurd (omega arith)
       by false f h = first-least test n r (omega (arith, ltb-false (first test n) n f))
 
