@@ -5,30 +5,15 @@
 //! `rt check` has left in target/bin.
 
 use std::io::{Read, Write};
-use std::path::{Path, PathBuf};
 use std::thread::sleep;
 use std::time::Duration;
 
-use tests::process::start;
+use tests::process::{program, start};
 use witness::generate::{any, pixels, saws, Random, Seed};
 use witness::text::{MOST_BYTES, MOST_LINES};
 use witness::vectors::{read_cases, Work};
 
 const BASE: &str = include_str!("../../vectors/base.txt");
-
-/// Where the program is.
-fn program() -> PathBuf {
-    let program = match std::env::var_os("OUTLINE_PROGRAM") {
-        Some(named) => PathBuf::from(named),
-        None => Path::new(env!("CARGO_MANIFEST_DIR")).join("../../target/bin/outline"),
-    };
-    assert!(
-        program.is_file(),
-        "there is no program at {}: run `rt check` in the repository's root, or name another with OUTLINE_PROGRAM",
-        program.display()
-    );
-    program
-}
 
 /// What the program prints for an input that comes in these pieces, with a
 /// pause after each. It must end well and read no more than it wants.
