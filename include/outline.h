@@ -37,8 +37,9 @@ enum {
 };
 
 /*
- * The refusals, by number. `place` is the place of an edge in the list, from 0,
- * where an edge is named below, and 0 otherwise.
+ * The refusals, by number; the words are those of docs/REFUSALS.md. `place` is
+ * the place of an edge in the list, from 0, where an edge is named below, and 0
+ * otherwise.
  *
  * 1 to 4 are tried first. Then the first edge with any of 5, 6, 7 decides, in
  * that order within an edge. Then 8 is tried over the whole list, then 9, then
@@ -47,24 +48,26 @@ enum {
 enum {
     OUTLINE_ACCEPTED = 0,
     /* outline_number */
-    OUTLINE_PART_OF_AN_EDGE = 1, /* the list's length is no multiple of 4 */
-    OUTLINE_TOO_MANY_EDGES = 2,  /* more than 4,096 */
-    OUTLINE_LIST_LENGTH = 3,     /* polygons or sequences: not one an edge */
-    OUTLINE_SHORT_JOURNAL = 4,   /* fewer than 8 numbers an edge */
-    OUTLINE_PAST_THE_RANGE = 5,  /* the edge has a coordinate past the limit */
-    OUTLINE_EQUAL_ENDS = 6,      /* the edge begins where it ends */
-    OUTLINE_OUT_OF_ORDER = 7,    /* its top is below the top before it */
-    OUTLINE_KIND_TAKEN = 8,      /* it arrives at a point, or leaves one, on the
-                                    side on which an earlier edge does */
-    OUTLINE_OPEN_END = 9,        /* it has an end where arriving and leaving
-                                    edges are not equally many */
-    OUTLINE_NO_FREE_ROW = 10,    /* too few rows: when it was treated */
+    OUTLINE_NOT_WHOLE = 1,      /* the list's length is no multiple of 4 */
+    OUTLINE_TOO_MANY = 2,       /* more than 4,096 edges */
+    OUTLINE_LISTS_DIFFER = 3,   /* polygons or sequences: not one an edge */
+    OUTLINE_JOURNAL_SHORT = 4,  /* fewer than 8 numbers an edge */
+    OUTLINE_PAST_RANGE = 5,     /* the edge has a coordinate past the limit */
+    OUTLINE_EQUAL_ENDS = 6,     /* the edge begins where it ends */
+    OUTLINE_TOP_FALLS = 7,      /* its top is below the top before it */
+    OUTLINE_REPEATED = 8,       /* it arrives at a point, or leaves one, on the
+                                   side on which an earlier edge does */
+    OUTLINE_UNEVEN = 9,         /* it has an end where arriving and leaving
+                                   edges are not equally many */
+    OUTLINE_NO_ROW = 10,        /* too few rows: when it was treated */
     /* outline_turns */
-    OUTLINE_TURN_LENGTHS = 11,   /* the lengths differ, or are above 4,096 */
-    OUTLINE_POLYGON_ZERO = 12,   /* the edge has polygon number 0 */
-    OUTLINE_PAIR_TAKEN = 13,     /* an earlier edge has both its numbers */
-    OUTLINE_GAP = 14             /* no edge stands one before it, in its polygon
-                                    or among polygons */
+    OUTLINE_TURN_LENGTHS = 11,  /* the lengths differ, or are above 4,096 */
+    OUTLINE_NO_POLYGON = 12,    /* the edge has polygon number 0 */
+    OUTLINE_PAIR_REPEATED = 13, /* an earlier edge has both its numbers */
+    OUTLINE_GAP = 14,           /* no edge stands one before it, in its polygon
+                                   or among polygons */
+    /* neither of the two: the program outline, which reads text */
+    OUTLINE_MALFORMED = 15      /* place: the first malformed line, from 1 */
 };
 
 /* The answer of outline_number. */

@@ -16,19 +16,28 @@ use std::fmt;
 /// assert_eq!((refusal.number(), refusal.place()), (6, 0));
 /// println!("{}", refusal);
 /// ```
+///
+/// The names are those of docs/REFUSALS.md, in which each number has one word:
+/// the proved engine's own and, in capitals, the C header's. Until that list
+/// some were others here: `NotWhole` was `PartOfAnEdge`, `TooMany` was
+/// `TooManyEdges`, `ListsDiffer` was `ListLength`, `JournalShort` was
+/// `ShortJournal`, `PastRange` was `PastTheRange`, `TopFalls` was `OutOfOrder`,
+/// `Repeated` was `KindTaken`, `Uneven` was `OpenEnd`, `NoRow` was `NoFreeRow`,
+/// `NoPolygon` was `PolygonZero` and `PairRepeated` was `PairTaken`. Numbers,
+/// places and sentences are as they were.
 #[derive(Clone, Copy, PartialEq, Eq, Hash, Debug)]
 #[non_exhaustive]
 pub enum Refusal {
     /// 1: the list's length is no multiple of four.
-    PartOfAnEdge,
+    NotWhole,
     /// 2: the list has more than 4,096 edges.
-    TooManyEdges,
+    TooMany,
     /// 3: the polygon list or the sequence list is not one number an edge.
-    ListLength,
+    ListsDiffer,
     /// 4: the journal is shorter than eight numbers an edge.
-    ShortJournal,
+    JournalShort,
     /// 5: a coordinate is past the range.
-    PastTheRange {
+    PastRange {
         /// The first such edge.
         edge: u32,
     },
@@ -38,22 +47,22 @@ pub enum Refusal {
         edge: u32,
     },
     /// 7: the list is not in sweep order.
-    OutOfOrder {
+    TopFalls {
         /// The first edge whose top is below the top before it.
         edge: u32,
     },
     /// 8: two edges arrive at a point, or leave it, on one side.
-    KindTaken {
-        /// The first edge that finds its kind taken.
+    Repeated {
+        /// The first edge of a kind that an earlier edge has at the same point.
         edge: u32,
     },
     /// 9: at a point not as many edges arrive as leave.
-    OpenEnd {
+    Uneven {
         /// The first edge with an end at such a point.
         edge: u32,
     },
     /// 10: the rows lent do not suffice.
-    NoFreeRow {
+    NoRow {
         /// The edge that was being treated.
         edge: u32,
     },
@@ -61,12 +70,12 @@ pub enum Refusal {
     /// than 4,096.
     TurnLengths,
     /// 12: a polygon number is 0.
-    PolygonZero {
+    NoPolygon {
         /// The first such edge.
         edge: u32,
     },
     /// 13: two edges have the same polygon and sequence number.
-    PairTaken {
+    PairRepeated {
         /// The first edge whose pair an earlier edge has.
         edge: u32,
     },
@@ -97,19 +106,19 @@ impl Refusal {
         let edge = place;
         let refusal = match number {
             0 => return None,
-            1 => Refusal::PartOfAnEdge,
-            2 => Refusal::TooManyEdges,
-            3 => Refusal::ListLength,
-            4 => Refusal::ShortJournal,
-            5 => Refusal::PastTheRange { edge },
+            1 => Refusal::NotWhole,
+            2 => Refusal::TooMany,
+            3 => Refusal::ListsDiffer,
+            4 => Refusal::JournalShort,
+            5 => Refusal::PastRange { edge },
             6 => Refusal::EqualEnds { edge },
-            7 => Refusal::OutOfOrder { edge },
-            8 => Refusal::KindTaken { edge },
-            9 => Refusal::OpenEnd { edge },
-            10 => Refusal::NoFreeRow { edge },
+            7 => Refusal::TopFalls { edge },
+            8 => Refusal::Repeated { edge },
+            9 => Refusal::Uneven { edge },
+            10 => Refusal::NoRow { edge },
             11 => Refusal::TurnLengths,
-            12 => Refusal::PolygonZero { edge },
-            13 => Refusal::PairTaken { edge },
+            12 => Refusal::NoPolygon { edge },
+            13 => Refusal::PairRepeated { edge },
             14 => Refusal::Gap { edge },
             _ => Refusal::Unknown { number, place },
         };
@@ -119,19 +128,19 @@ impl Refusal {
     /// The refusal's number in the rules, 1 to 15.
     pub fn number(self) -> u32 {
         match self {
-            Refusal::PartOfAnEdge => 1,
-            Refusal::TooManyEdges => 2,
-            Refusal::ListLength => 3,
-            Refusal::ShortJournal => 4,
-            Refusal::PastTheRange { .. } => 5,
+            Refusal::NotWhole => 1,
+            Refusal::TooMany => 2,
+            Refusal::ListsDiffer => 3,
+            Refusal::JournalShort => 4,
+            Refusal::PastRange { .. } => 5,
             Refusal::EqualEnds { .. } => 6,
-            Refusal::OutOfOrder { .. } => 7,
-            Refusal::KindTaken { .. } => 8,
-            Refusal::OpenEnd { .. } => 9,
-            Refusal::NoFreeRow { .. } => 10,
+            Refusal::TopFalls { .. } => 7,
+            Refusal::Repeated { .. } => 8,
+            Refusal::Uneven { .. } => 9,
+            Refusal::NoRow { .. } => 10,
             Refusal::TurnLengths => 11,
-            Refusal::PolygonZero { .. } => 12,
-            Refusal::PairTaken { .. } => 13,
+            Refusal::NoPolygon { .. } => 12,
+            Refusal::PairRepeated { .. } => 13,
             Refusal::Gap { .. } => 14,
             Refusal::Malformed { .. } => 15,
             Refusal::Unknown { number, .. } => number,
@@ -151,14 +160,14 @@ impl Refusal {
     /// The edge that the refusal speaks of, if it speaks of one.
     pub fn edge(self) -> Option<u32> {
         match self {
-            Refusal::PastTheRange { edge }
+            Refusal::PastRange { edge }
             | Refusal::EqualEnds { edge }
-            | Refusal::OutOfOrder { edge }
-            | Refusal::KindTaken { edge }
-            | Refusal::OpenEnd { edge }
-            | Refusal::NoFreeRow { edge }
-            | Refusal::PolygonZero { edge }
-            | Refusal::PairTaken { edge }
+            | Refusal::TopFalls { edge }
+            | Refusal::Repeated { edge }
+            | Refusal::Uneven { edge }
+            | Refusal::NoRow { edge }
+            | Refusal::NoPolygon { edge }
+            | Refusal::PairRepeated { edge }
             | Refusal::Gap { edge } => Some(edge),
             _ => None,
         }
@@ -168,31 +177,31 @@ impl Refusal {
     /// line that it speaks of, if any.
     fn fault(self) -> &'static str {
         match self {
-            Refusal::PartOfAnEdge => "the list ends in the middle of an edge",
-            Refusal::TooManyEdges => "the list has more than 4,096 edges",
-            Refusal::ListLength => {
+            Refusal::NotWhole => "the list ends in the middle of an edge",
+            Refusal::TooMany => "the list has more than 4,096 edges",
+            Refusal::ListsDiffer => {
                 "the polygon list or the sequence list has not one number for each edge"
             }
-            Refusal::ShortJournal => "the journal is too short",
-            Refusal::PastTheRange { .. } => {
+            Refusal::JournalShort => "the journal is too short",
+            Refusal::PastRange { .. } => {
                 "has a coordinate below -1,000,000 or above 1,000,000"
             }
             Refusal::EqualEnds { .. } => "begins and ends at the same point",
-            Refusal::OutOfOrder { .. } => {
+            Refusal::TopFalls { .. } => {
                 "has its higher end below the higher end of the edge before it"
             }
-            Refusal::KindTaken { .. } => {
+            Refusal::Repeated { .. } => {
                 "arrives at a point, or leaves one, on the same side of it as an earlier edge does"
             }
-            Refusal::OpenEnd { .. } => {
+            Refusal::Uneven { .. } => {
                 "has an end where not as many edges arrive as leave, so that an outline is open there"
             }
-            Refusal::NoFreeRow { .. } => "finds no free row",
+            Refusal::NoRow { .. } => "finds no free row",
             Refusal::TurnLengths => {
                 "the polygon list, the sequence list and the turn list are not equally long, or longer than 4,096"
             }
-            Refusal::PolygonZero { .. } => "has the polygon number 0",
-            Refusal::PairTaken { .. } => {
+            Refusal::NoPolygon { .. } => "has the polygon number 0",
+            Refusal::PairRepeated { .. } => {
                 "has the same polygon number and sequence number as an earlier edge"
             }
             Refusal::Gap { .. } => {
@@ -206,27 +215,27 @@ impl Refusal {
     /// What to do about it.
     fn remedy(self) -> &'static str {
         match self {
-            Refusal::PartOfAnEdge => {
+            Refusal::NotWhole => {
                 "give every edge four numbers: tail x, tail y, head x, head y"
             }
-            Refusal::TooManyEdges => "split the sheet",
-            Refusal::ListLength => "make both as long as there are edges",
-            Refusal::ShortJournal => "lend it eight numbers or more for each edge",
-            Refusal::PastTheRange { .. } => "move or shrink the drawing",
+            Refusal::TooMany => "split the sheet",
+            Refusal::ListsDiffer => "make both as long as there are edges",
+            Refusal::JournalShort => "lend it eight numbers or more for each edge",
+            Refusal::PastRange { .. } => "move or shrink the drawing",
             Refusal::EqualEnds { .. } => "leave it out",
-            Refusal::OutOfOrder { .. } => {
+            Refusal::TopFalls { .. } => {
                 "sort the edges by the y of their higher ends, and at equal y by the x"
             }
-            Refusal::KindTaken { .. } => {
+            Refusal::Repeated { .. } => {
                 "if it is drawn twice leave one out, else move the point apart into two"
             }
-            Refusal::OpenEnd { .. } => {
+            Refusal::Uneven { .. } => {
                 "add the edge that is missing, or turn round the one that runs the wrong way"
             }
-            Refusal::NoFreeRow { .. } => "lend more rows; rows_enough says how many always do",
+            Refusal::NoRow { .. } => "lend more rows; rows_enough says how many always do",
             Refusal::TurnLengths => "lend one number for each edge in all three",
-            Refusal::PolygonZero { .. } => "number polygons from 1",
-            Refusal::PairTaken { .. } => "give each edge of a polygon a sequence number of its own",
+            Refusal::NoPolygon { .. } => "number polygons from 1",
+            Refusal::PairRepeated { .. } => "give each edge of a polygon a sequence number of its own",
             Refusal::Gap { .. } => {
                 "number polygons from 1 and the edges of each from 0, leaving none out"
             }

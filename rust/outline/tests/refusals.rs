@@ -9,24 +9,24 @@ const TRIANGLE: [i32; 12] = [0, 0, 4, 2, 4, 2, 1, 5, 1, 5, 0, 0];
 
 /// The refusals that speak of no edge.
 const OF_NO_EDGE: [Refusal; 5] = [
-    Refusal::PartOfAnEdge,
-    Refusal::TooManyEdges,
-    Refusal::ListLength,
-    Refusal::ShortJournal,
+    Refusal::NotWhole,
+    Refusal::TooMany,
+    Refusal::ListsDiffer,
+    Refusal::JournalShort,
     Refusal::TurnLengths,
 ];
 
 /// The refusals that speak of an edge.
 fn of_an_edge(edge: u32) -> [Refusal; 9] {
     [
-        Refusal::PastTheRange { edge },
+        Refusal::PastRange { edge },
         Refusal::EqualEnds { edge },
-        Refusal::OutOfOrder { edge },
-        Refusal::KindTaken { edge },
-        Refusal::OpenEnd { edge },
-        Refusal::NoFreeRow { edge },
-        Refusal::PolygonZero { edge },
-        Refusal::PairTaken { edge },
+        Refusal::TopFalls { edge },
+        Refusal::Repeated { edge },
+        Refusal::Uneven { edge },
+        Refusal::NoRow { edge },
+        Refusal::NoPolygon { edge },
+        Refusal::PairRepeated { edge },
         Refusal::Gap { edge },
     ]
 }
@@ -103,15 +103,15 @@ fn answer(edges: &[i32], lists: usize, journal: usize, rows: usize) -> Answer {
 fn each_refusal_of_the_engine_comes_as_its_case() {
     let triangle = |journal, rows| answer(&TRIANGLE, 3, journal, rows);
     let cases = [
-        (answer(&[0; 5], 1, 8, 8), Refusal::PartOfAnEdge),
-        (answer(&[0; 4 * 4097], 1, 8, 8), Refusal::TooManyEdges),
-        (answer(&TRIANGLE, 2, 24, 8), Refusal::ListLength),
-        (triangle(23, 8), Refusal::ShortJournal),
+        (answer(&[0; 5], 1, 8, 8), Refusal::NotWhole),
+        (answer(&[0; 4 * 4097], 1, 8, 8), Refusal::TooMany),
+        (answer(&TRIANGLE, 2, 24, 8), Refusal::ListsDiffer),
+        (triangle(23, 8), Refusal::JournalShort),
         (
             answer(&[0, 0, 1_000_001, 0], 1, 8, 8),
-            Refusal::PastTheRange { edge: 0 },
+            Refusal::PastRange { edge: 0 },
         ),
-        (triangle(24, 7), Refusal::NoFreeRow { edge: 0 }),
+        (triangle(24, 7), Refusal::NoRow { edge: 0 }),
     ];
     for (answer, refusal) in cases {
         assert_eq!(answer, Answer::Refused(refusal));
@@ -129,10 +129,10 @@ fn each_refusal_of_the_turn_list_comes_as_its_case() {
         TurnAnswer::Accepted { polygons } => panic!("{} polygons", polygons),
     };
     assert_eq!(refused(&[1], &[0], 2), Refusal::TurnLengths);
+    assert_eq!(refused(&[1, 0], &[0, 0], 2), Refusal::NoPolygon { edge: 1 });
     assert_eq!(
-        refused(&[1, 0], &[0, 0], 2),
-        Refusal::PolygonZero { edge: 1 }
+        refused(&[1, 1], &[0, 0], 2),
+        Refusal::PairRepeated { edge: 1 }
     );
-    assert_eq!(refused(&[1, 1], &[0, 0], 2), Refusal::PairTaken { edge: 1 });
     assert_eq!(refused(&[1, 1], &[0, 2], 2), Refusal::Gap { edge: 1 });
 }

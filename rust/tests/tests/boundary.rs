@@ -185,7 +185,7 @@ int main(void)
     printf("%u %u %u\n", (unsigned)turned.refusal, (unsigned)turned.place,
            (unsigned)turned.polygons);
     printf("%u %u %u\n", (unsigned)turns[0], (unsigned)turns[1], (unsigned)turns[2]);
-    printf("%d\n", refused.refusal == OUTLINE_OPEN_END);
+    printf("%d\n", refused.refusal == OUTLINE_UNEVEN);
     return 0;
 }
 "#;

@@ -42,11 +42,11 @@ fn accepted_by_hand() {
 fn refused_by_hand() {
     let refusal = |edges: &[i32]| Outlines::of(edges).unwrap_err();
     let twice = [&TRIANGLE[..4], &TRIANGLE[..]].concat();
-    assert_eq!(refusal(&twice), Refusal::KindTaken { edge: 1 });
-    assert_eq!(refusal(&TRIANGLE[..8]), Refusal::OpenEnd { edge: 0 });
+    assert_eq!(refusal(&twice), Refusal::Repeated { edge: 1 });
+    assert_eq!(refusal(&TRIANGLE[..8]), Refusal::Uneven { edge: 0 });
     assert_eq!(refusal(&[5, 5, 5, 5]), Refusal::EqualEnds { edge: 0 });
     let changed_over = [&TRIANGLE[4..8], &TRIANGLE[..4], &TRIANGLE[8..]].concat();
-    assert_eq!(refusal(&changed_over), Refusal::OutOfOrder { edge: 1 });
+    assert_eq!(refusal(&changed_over), Refusal::TopFalls { edge: 1 });
 }
 
 #[test]
@@ -60,7 +60,7 @@ fn two_peaks_with_two_rows() {
         &mut journal,
         &mut rows,
     );
-    assert_eq!(answer, Answer::Refused(Refusal::NoFreeRow { edge: 3 }));
+    assert_eq!(answer, Answer::Refused(Refusal::NoRow { edge: 3 }));
     assert_eq!((polygons, sequences), ([7; 4], [8; 4]));
     assert_eq!((journal, rows), ([0; 32], [0; 16]));
 }
