@@ -5,7 +5,7 @@ use mathlib.Core.Logic.{_↔_}
 use Prim.Native.Nat.{ℕ}
 use native.Mathlib.Omega.{arith}
 use Rattle.sheet.specs.declared.TurnRefusal.{TurnRefusal}
-use Rattle.sheet.specs.declared.TurnRefusal.the-variants.{LengthsDiffer, NoPolygon, PairRepeated, Gap}
+use Rattle.sheet.specs.declared.TurnRefusal.the-variants.{TurnLengths, NoPolygon, PairRepeated, Gap}
 use Rattle.sheet.specs.declared.TurnAnswer.{TurnAnswer}
 use Rattle.sheet.specs.declared.TurnAnswer.the-variants.{Accepted, Refused}
 use Rattle.sheet.specs.TurnList.{turnNumberOf, GoodLists}
@@ -14,7 +14,7 @@ use Rattle.desk.specs.declared.Turned.{Turned}
 use Rattle.desk.specs.Exported.{turnedFrom}
 
 refused-not-zero : (r : TurnRefusal) → turnNumberOf r ≡ 0 → ⊥
-refused-not-zero LengthsDiffer q = omega arith
+refused-not-zero TurnLengths q = omega arith
 refused-not-zero (NoPolygon e) q = omega arith
 refused-not-zero (PairRepeated e) q = omega arith
 refused-not-zero (Gap e) q = omega arith

@@ -16,7 +16,7 @@ use Rattle.laws.proofs.Deciding.{lt-or-le, true-or-false, not-both, both-true, 
 use Rattle.laws.proofs.First.{first-least, first-none, some-below-true, none-below, below-none, below-some}
 use Rattle.laws.proofs.Largest.{largest-bound, largest-met, largest-is}
 use Rattle.sheet.specs.declared.TurnRefusal.{TurnRefusal}
-use Rattle.sheet.specs.declared.TurnRefusal.the-variants.{LengthsDiffer, NoPolygon, PairRepeated, Gap}
+use Rattle.sheet.specs.declared.TurnRefusal.the-variants.{TurnLengths, NoPolygon, PairRepeated, Gap}
 use Rattle.sheet.specs.declared.TurnAnswer.{TurnAnswer}
 use Rattle.sheet.specs.declared.TurnAnswer.the-variants.{Accepted}
 use Rattle.sheet.specs.TurnList.{NumberLists, numberLists, noPolygon, pairRepeated, gap, refuseTurn, refuseFirstTurn, lengthsDiffer, turned, GoodNumbering, GoodLists}
@@ -177,7 +177,7 @@ module _ (polygons sequences : List ℕ) (turns n : ℕ) where
   accepted-good : turned polygons sequences turns ≡ Accepted n → GoodLists polygons sequences turns n
   unfolding turned lengthsDiffer numberLists
   accepted-good q =
-      let w11 = not-refused (lengthsDiffer (length polygons) (length sequences) turns) LengthsDiffer _ q in
+      let w11 = not-refused (lengthsDiffer (length polygons) (length sequences) turns) TurnLengths _ q in
       let w12 = none-refused (numberLists polygons sequences) noPolygon NoPolygon _ (w11 .1) in
       let w13 = none-refused (numberLists polygons sequences) pairRepeated PairRepeated _ (w12 .1) in
       let w14 = none-refused (numberLists polygons sequences) gap Gap _ (w13 .1) in

@@ -8,19 +8,19 @@ use lib.Dec.{eqb, ltb}
 use lib.ListN.{length, getD}
 use Rattle.laws.specs.Counting.{some-below, first, largest}
 use Rattle.sheet.specs.declared.TurnRefusal.{TurnRefusal}
-use Rattle.sheet.specs.declared.TurnRefusal.the-variants.{LengthsDiffer, NoPolygon, PairRepeated, Gap}
+use Rattle.sheet.specs.declared.TurnRefusal.the-variants.{TurnLengths, NoPolygon, PairRepeated, Gap}
 use Rattle.sheet.specs.declared.TurnAnswer.{TurnAnswer}
 use Rattle.sheet.specs.declared.TurnAnswer.the-variants as answer
 use Rattle.sheet.specs.Amounts.{mostEdges}
 
 abbrev pub turnNumberOf : TurnRefusal → ℕ
-turnNumberOf LengthsDiffer = 11
+turnNumberOf TurnLengths = 11
 turnNumberOf (NoPolygon e) = 12
 turnNumberOf (PairRepeated e) = 13
 turnNumberOf (Gap e) = 14
 
 abbrev pub turnPlaceOf : TurnRefusal → ℕ
-turnPlaceOf LengthsDiffer = 0
+turnPlaceOf TurnLengths = 0
 turnPlaceOf (NoPolygon e) = e
 turnPlaceOf (PairRepeated e) = e
 turnPlaceOf (Gap e) = e
@@ -62,7 +62,7 @@ lengthsDiffer polygons sequences turns = not (eqb polygons sequences && eqb poly
 -- the order of trying, 12 to 14 each over the whole list; what is accepted has as many polygons as its largest number
 unfoldable pub turned : List ℕ → List ℕ → ℕ → TurnAnswer
 turned polygons sequences turns =
-    refuseTurn (lengthsDiffer (length polygons) (length sequences) turns) LengthsDiffer
+    refuseTurn (lengthsDiffer (length polygons) (length sequences) turns) TurnLengths
     (refuseFirstTurn (numberLists polygons sequences) noPolygon NoPolygon
     (refuseFirstTurn (numberLists polygons sequences) pairRepeated PairRepeated
     (refuseFirstTurn (numberLists polygons sequences) gap Gap

@@ -197,7 +197,7 @@ pub enum Answer {
 
 // Why a turn list is refused.
 pub enum TurnRefusal {
-    LengthsDiffer,
+    TurnLengths,
     NoPolygon(u32),
     PairRepeated(u32),
     Gap(u32),
@@ -208,7 +208,7 @@ impl TurnRefusal {
         ensures { λ r. ⌜ r ≡ turnNumberOf self ⌝ }
     {
         match self {
-            TurnRefusal::LengthsDiffer => 11,
+            TurnRefusal::TurnLengths => 11,
             TurnRefusal::NoPolygon(_) => 12,
             TurnRefusal::PairRepeated(_) => 13,
             TurnRefusal::Gap(_) => 14,
@@ -219,7 +219,7 @@ impl TurnRefusal {
         ensures { λ r. ⌜ r ≡ turnPlaceOf self ⌝ }
     {
         match self {
-            TurnRefusal::LengthsDiffer => 0,
+            TurnRefusal::TurnLengths => 0,
             TurnRefusal::NoPolygon(e) => e,
             TurnRefusal::PairRepeated(e) => e,
             TurnRefusal::Gap(e) => e,

@@ -9,7 +9,7 @@ use borrow.Author.Tests.{lt-ltb, le-ltb, ltb-false, eqb-true, not-false}
 use Rattle.laws.specs.Counting.{first, largest}
 use Rattle.laws.proofs.Deciding.{neither-true, both-true}
 use Rattle.sheet.specs.declared.TurnRefusal.{TurnRefusal}
-use Rattle.sheet.specs.declared.TurnRefusal.the-variants.{LengthsDiffer, NoPolygon, PairRepeated, Gap}
+use Rattle.sheet.specs.declared.TurnRefusal.the-variants.{TurnLengths, NoPolygon, PairRepeated, Gap}
 use Rattle.sheet.specs.declared.TurnAnswer.{TurnAnswer}
 use Rattle.sheet.specs.declared.TurnAnswer.the-variants.{Accepted, Refused}
 use Rattle.sheet.specs.TurnList.{NumberLists, numberLists, noPolygon, pairRepeated, gap, refuseFirstTurn, lengthsDiffer, turned}
@@ -28,7 +28,7 @@ module _ (v : NumberLists) (test : NumberLists → ℕ → Bool) (refusal : ℕ 
 
 -- 11, and what follows where the lengths are as they should be
 module _ (polygons sequences : List ℕ) (turns : ℕ) {differ : Bool} (told : differ ≡ lengthsDiffer (length polygons) (length sequences) turns) where
-  pub turned-differing : differ ≡ true → Refused LengthsDiffer ≡ turned polygons sequences turns
+  pub turned-differing : differ ≡ true → Refused TurnLengths ≡ turned polygons sequences turns
   unfolding turned
   turned-differing differs = rw (← told, differs)
 

@@ -29,7 +29,7 @@ pub fn turn_list(polygons: &[u32], sequences: &[u32], turns: &mut [u32]) -> Turn
     ensures turns { λ r. ⌜ TurnsAfter (now (polygons .entry)) (now (sequences .entry)) r (now (turns .entry)) (now (turns .exit)) ⌝ }
 {
     if lengths_differ(polygons.len(), sequences.len(), turns.len()) {
-        return TurnAnswer::Refused(TurnRefusal::LengthsDiffer);
+        return TurnAnswer::Refused(TurnRefusal::TurnLengths);
     }
     turn_numbers(polygons, sequences, turns)
 }
