@@ -20,7 +20,7 @@ use Rattle.sheet.specs.declared.Check.{Check}
 use Rattle.sheet.specs.declared.Check.the-variants.{Passed, Refused}
 use Rattle.sheet.specs.Edges.{edgesIn, drawingOf}
 use Rattle.sheet.specs.Answers.{Call, notWhole, tooMany, listsDiffer, journalShort, pastRange, equalEnds, topFalls, edgeFault, faultOf, repeats, uneven, refuseIf, refuseFirst, checked}
-use Rattle.checks.specs.KindsChecked.{kindsChecked}
+use Rattle.checks.specs.Stages.{placesChecked}
 use Rattle.checks.proofs.Answering.{refuse-here, refuse-not}
 
 -- none of 1 to 4
@@ -100,12 +100,12 @@ module _ {c : Call} (l : LengthsFit c) where
   unfolding checked
   fault-given f = rw (l .whole, l .few, l .one-each, l .long) (refused-at _ _ (faultOf (c .list)) _ f)
 
-  kinds-given : NoneBelow (edgeFault (c .list)) (edgesIn (c .list)) → checked c ≡ kindsChecked (c .list) (edgesIn (c .list))
-  unfolding checked kindsChecked
-  kinds-given f = rw (l .whole, l .few, l .one-each, l .long) (not-refused _ _ (faultOf (c .list)) _ f)
+  places-given : NoneBelow (edgeFault (c .list)) (edgesIn (c .list)) → checked c ≡ placesChecked (c .list)
+  unfolding checked placesChecked
+  places-given f = rw (l .whole, l .few, l .one-each, l .long) (not-refused _ _ (faultOf (c .list)) _ f)
 
 given : {c : Call} {a : Check} → Row c a → checked c ≡ a
-unfolding checked kindsChecked
+unfolding checked placesChecked
 given (row-1 w) = rw w
 given (row-2 w m) = rw (w, m)
 given (row-3 w m o) = rw (w, m, o)
@@ -113,9 +113,9 @@ given (row-4 w m o j) = rw (w, m, o, j)
 given (row-5 l f p) = fault-given l f ∙ rw p
 given (row-6 l f p q) = fault-given l f ∙ rw (p, q)
 given (row-7 l f p q t) = fault-given l f ∙ rw (p, q)
-given (row-8 l f h) = kinds-given l f ∙ refused-at _ _ Repeated _ h
-given (row-9 l f r h) = kinds-given l f ∙ not-refused _ _ Repeated _ r ∙ refused-at _ _ Uneven _ h
-given (no-row l f r u) = kinds-given l f ∙ not-refused _ _ Repeated _ r ∙ not-refused _ _ Uneven _ u
+given (row-8 l f h) = places-given l f ∙ refused-at _ _ Repeated _ h
+given (row-9 l f r h) = places-given l f ∙ not-refused _ _ Repeated _ r ∙ refused-at _ _ Uneven _ h
+given (no-row l f r u) = places-given l f ∙ not-refused _ _ Repeated _ r ∙ not-refused _ _ Uneven _ u
 
 pub exactly : (c : Call) (a : Check) → (checked c ≡ a) ↔ Row c a
 exactly c a = (λ q. subst (Row c) q (row c), given)

@@ -1,22 +1,47 @@
--- `checked`, refusal by refusal: the answer where the code has compared the numbers of 1 to 4, and where it has the first edge of 5 to 7, of 8 and of 9.
-use mathlib.Core.Path.{_≡_, refl, ap, _∙_}
-use mathlib.Core.Bool.{Bool, false}
+-- `checked` by stages: the three of them in a row give its answer. Then each stage's answer where the code has compared the lengths, or has the first
+-- edge of 5 to 7, of 8 and of 9; and what a stage that passes says of the list.
+use mathlib.Core.Path.{_≡_, refl, sym, ap, _∙_}
+use mathlib.Core.Bool.{Bool, true, false, not}
 use mathlib.Core.List.{List}
-use Prim.Native.Nat.{ℕ, _*_, _/_, _%_, _≤_, _<_}
+use Prim.Native.Nat.{ℕ, _+_, _*_, _/_, _%_, _≤_, _<_}
 use native.Mathlib.Omega.{arith}
+use lib.Dec.{eqb, ltb}
 use lib.IntN.{ℤ}
 use lib.ListN.{length}
-use borrow.Author.Tests.{lt-ltb, le-ltb, eq-eqb, ne-eqb}
+use borrow.Author.Tests.{lt-ltb, le-ltb, ltb-false, eq-eqb, ne-eqb}
 use Rattle.laws.specs.Counting.{first}
 use Rattle.laws.proofs.First.{first-least}
+use Rattle.laws.proofs.Searching.{NoneBelow}
 use Rattle.sheet.specs.declared.Refusal.{Refusal}
 use Rattle.sheet.specs.declared.Refusal.the-variants.{NotWhole, TooMany, ListsDiffer, JournalShort, Repeated, Uneven}
 use Rattle.sheet.specs.declared.Check.{Check}
 use Rattle.sheet.specs.declared.Check.the-variants.{Passed, Refused}
 use Rattle.sheet.specs.Edges.{edgesIn, drawingOf}
-use Rattle.sheet.specs.Answers.{Call, notWhole, tooMany, listsDiffer, journalShort, edgeFault, faultOf, repeats, uneven, refuseFirst, checked}
-use Rattle.checks.specs.Faults.{Faultless}
-use Rattle.checks.specs.KindsChecked.{kindsChecked}
+use Rattle.sheet.specs.Answers.{Call, notWhole, tooMany, listsDiffer, journalShort, edgeFault, faultOf, repeats, uneven, refuseIf, refuseFirst, checked}
+use Rattle.checks.specs.declared.places.AtFault.{AtFault}
+use Rattle.checks.specs.Stages.{andThen, listChecked, lengthsChecked, edgesChecked, placesChecked}
+use Rattle.checks.specs.Faults.{EndsFit}
+use Rattle.checks.specs.Places.{firstAtFault}
+use Rattle.checks.proofs.EdgeFaults.{none-of}
+
+pub by-stages : (c : Call) → andThen (lengthsChecked c) (andThen (edgesChecked (c .list)) (placesChecked (c .list))) ≡ checked c
+unfolding checked lengthsChecked listChecked edgesChecked placesChecked notWhole tooMany
+by-stages c = by (notWhole c) (tooMany c) (listsDiffer c) (journalShort c) (ltb (first (edgeFault (c .list)) (edgesIn (c .list))) (edgesIn (c .list))) (faultOf (c .list) (first (edgeFault (c .list)) (edgesIn (c .list)))) (placesChecked (c .list))
+  where
+    by : (a b d e f : Bool) (r : Refusal) (next : Check) → andThen (andThen (refuseIf a NotWhole (refuseIf b TooMany Passed)) (refuseIf d ListsDiffer (refuseIf e JournalShort Passed))) (andThen (refuseIf f r Passed) next) ≡ refuseIf a NotWhole (refuseIf b TooMany (refuseIf d ListsDiffer (refuseIf e JournalShort (refuseIf f r next))))
+    by true b d e f r next = refl
+    by false true d e f r next = refl
+    by false false true e f r next = refl
+    by false false false true f r next = refl
+    by false false false false true r next = refl
+    by false false false false false r next = refl
+
+-- a stage that refuses, and one that passes
+pub then-refused : {a : Check} {r : Refusal} (next : Check) → a ≡ Refused r → Refused r ≡ andThen a next
+then-refused next q = rw q
+
+pub then-passed : {a : Check} (next : Check) → a ≡ Passed → next ≡ andThen a next
+then-passed next q = rw q
 
 -- what is tried over the list
 module _ (test : ℕ → Bool) (n f : ℕ) (found : f ≡ first test n) where
@@ -26,76 +51,72 @@ module _ (test : ℕ → Bool) (n f : ℕ) (found : f ≡ first test n) where
   pub refuse-not : (refusal : ℕ → Refusal) (rest : Check) → n ≤ f → rest ≡ refuseFirst test n refusal rest
   refuse-not refusal rest l = rw (le-ltb (first test n) n (omega (arith, found)))
 
-  pub none-found : n ≤ f → (k : ℕ) → k < n → test k ≡ false
-  none-found l k h = first-least test n k (omega (arith, found))
-
-module _ (s : List ℤ) (n r : ℕ) (found : r ≡ first (repeats (drawingOf s)) n) where
-  pub on-repeat : r < n → Refused (Repeated r) ≡ kindsChecked s n
-  unfolding kindsChecked
-  on-repeat l = refuse-here (repeats (drawingOf s)) n r found Repeated _ l
-
-  module _ (none : n ≤ r) (u : ℕ) (found-next : u ≡ first (uneven (drawingOf s)) n) where
-    pub on-uneven : u < n → Refused (Uneven u) ≡ kindsChecked s n
-    unfolding kindsChecked
-    on-uneven l = refuse-here (uneven (drawingOf s)) n u found-next Uneven Passed l ∙ refuse-not (repeats (drawingOf s)) n r found Repeated _ none
-
-    pub on-passed : n ≤ u → Passed ≡ kindsChecked s n
-    unfolding kindsChecked
-    on-passed l = refuse-not (uneven (drawingOf s)) n u found-next Uneven Passed l ∙ refuse-not (repeats (drawingOf s)) n r found Repeated _ none
-
-module _ (s : List ℤ) (polygons sequences journal : ℕ) where
+-- 3 and 4, of a list that passes 1 and 2
+module _ (s : List ℤ) (polygons sequences journal : ℕ) (list : listChecked s ≡ Passed) where
   abbrev call : Call
   call = record { list = s; polygons = polygons; sequences = sequences; journal = journal }
 
-  pub on-not-whole : (length s % 4 ≡ 0 → ⊥) → Refused NotWhole ≡ checked call
-  unfolding checked notWhole
-  on-not-whole h = rw (ne-eqb (length s % 4) 0 h)
+  pub on-polygons : (polygons ≡ length s / 4 → ⊥) → Refused ListsDiffer ≡ lengthsChecked call
+  unfolding lengthsChecked listsDiffer edgesIn
+  on-polygons h = rw (list, ne-eqb polygons (length s / 4) h)
 
-  module _ (whole : length s % 4 ≡ 0) where
-    pub on-too-many : 4096 < length s / 4 → Refused TooMany ≡ checked call
-    unfolding checked notWhole tooMany edgesIn
-    on-too-many h = rw (eq-eqb (length s % 4) 0 whole, lt-ltb 4096 (length s / 4) h)
+  module _ (one-each : polygons ≡ length s / 4) where
+    pub on-sequences : (sequences ≡ length s / 4 → ⊥) → Refused ListsDiffer ≡ lengthsChecked call
+    unfolding lengthsChecked listsDiffer edgesIn
+    on-sequences h = rw (list, eq-eqb polygons (length s / 4) one-each, ne-eqb sequences (length s / 4) h)
 
-    module _ (few : length s / 4 ≤ 4096) where
-      pub on-polygons : (polygons ≡ length s / 4 → ⊥) → Refused ListsDiffer ≡ checked call
-      unfolding checked notWhole tooMany listsDiffer edgesIn
-      on-polygons h = rw (eq-eqb (length s % 4) 0 whole, le-ltb 4096 (length s / 4) few, ne-eqb polygons (length s / 4) h)
+    module _ (one-too : sequences ≡ length s / 4) where
+      pub on-journal : journal < 8 * (length s / 4) → Refused JournalShort ≡ lengthsChecked call
+      unfolding lengthsChecked listsDiffer journalShort edgesIn
+      on-journal h = rw (list, eq-eqb polygons (length s / 4) one-each, eq-eqb sequences (length s / 4) one-too, lt-ltb journal (8 * (length s / 4)) h)
 
-      module _ (one-each : polygons ≡ length s / 4) where
-        pub on-sequences : (sequences ≡ length s / 4 → ⊥) → Refused ListsDiffer ≡ checked call
-        unfolding checked notWhole tooMany listsDiffer edgesIn
-        on-sequences h = rw (eq-eqb (length s % 4) 0 whole, le-ltb 4096 (length s / 4) few, eq-eqb polygons (length s / 4) one-each, ne-eqb sequences (length s / 4) h)
+      pub on-lengths : 8 * (length s / 4) ≤ journal → Passed ≡ lengthsChecked call
+      unfolding lengthsChecked listsDiffer journalShort edgesIn
+      on-lengths h = rw (list, eq-eqb polygons (length s / 4) one-each, eq-eqb sequences (length s / 4) one-too, le-ltb journal (8 * (length s / 4)) h)
 
-        module _ (one-too : sequences ≡ length s / 4) where
-          pub on-journal : journal < 8 * (length s / 4) → Refused JournalShort ≡ checked call
-          unfolding checked notWhole tooMany listsDiffer journalShort edgesIn
-          on-journal h =
-              rw (
-                eq-eqb (length s % 4) 0 whole,
-                le-ltb 4096 (length s / 4) few,
-                eq-eqb polygons (length s / 4) one-each,
-                eq-eqb sequences (length s / 4) one-too,
-                lt-ltb journal (8 * (length s / 4)) h,
-              )
+-- 8 and 9, by the least edges found
+module _ (s : List ℤ) {f : AtFault} (found : f ≡ firstAtFault s) where
+  first-repeat : f .repeated ≡ first (repeats (drawingOf s)) (edgesIn s)
+  unfolding firstAtFault
+  first-repeat = ap (λ (x : AtFault). x .repeated) found
 
-          module _ (long : 8 * (length s / 4) ≤ journal) (f : ℕ) (found : f ≡ first (edgeFault s) (length s / 4)) where
-            edges-tried : refuseFirst (edgeFault s) (length s / 4) (faultOf s) (kindsChecked s (length s / 4)) ≡ checked call
-            unfolding kindsChecked checked notWhole tooMany listsDiffer journalShort edgesIn
-            edges-tried =
-                rw (
-                  eq-eqb (length s % 4) 0 whole,
-                  le-ltb 4096 (length s / 4) few,
-                  eq-eqb polygons (length s / 4) one-each,
-                  eq-eqb sequences (length s / 4) one-too,
-                  le-ltb journal (8 * (length s / 4)) long,
-                )
+  first-uneven : f .uneven ≡ first (uneven (drawingOf s)) (edgesIn s)
+  unfolding firstAtFault
+  first-uneven = ap (λ (x : AtFault). x .uneven) found
 
-            pub on-fault : f < length s / 4 → {r : Refusal} → r ≡ faultOf s f → Refused r ≡ checked call
-            on-fault l q = ap Refused q ∙ refuse-here (edgeFault s) (length s / 4) f found (faultOf s) _ l ∙ edges-tried
+  pub on-repeat : f .repeated < edgesIn s → Refused (Repeated (f .repeated)) ≡ placesChecked s
+  unfolding placesChecked
+  on-repeat l = refuse-here _ _ _ first-repeat Repeated _ l
 
-            pub on-kinds : length s / 4 ≤ f → {r : Check} → r ≡ kindsChecked s (length s / 4) → r ≡ checked call
-            on-kinds l q = q ∙ refuse-not (edgeFault s) (length s / 4) f found (faultOf s) _ l ∙ edges-tried
+  module _ (none : edgesIn s ≤ f .repeated) where
+    pub on-uneven : f .uneven < edgesIn s → Refused (Uneven (f .uneven)) ≡ placesChecked s
+    unfolding placesChecked
+    on-uneven l = refuse-here _ _ _ first-uneven Uneven Passed l ∙ refuse-not _ _ _ first-repeat Repeated _ none
 
-            pub faultless : length s / 4 ≤ f → Faultless s (length s / 4)
-            unfolding edgesIn
-            faultless l = record { all = refl; few = few; long = omega arith; none = none-found (edgeFault s) (length s / 4) f found l }
+    pub on-even : edgesIn s ≤ f .uneven → Passed ≡ placesChecked s
+    unfolding placesChecked
+    on-even l = refuse-not _ _ _ first-uneven Uneven Passed l ∙ refuse-not _ _ _ first-repeat Repeated _ none
+
+-- what it takes to pass
+if-passed : (t : Bool) (r : Refusal) (rest : Check) → refuseIf t r rest ≡ Passed → (t ≡ false) × (rest ≡ Passed)
+if-passed true r rest h = let z : _≡_ {A = ℕ} 0 1 = cc in absurd (omega arith)
+if-passed false r rest h = (refl, h)
+
+stage-passed : (a next : Check) → andThen a next ≡ Passed → (a ≡ Passed) × (next ≡ Passed)
+stage-passed Passed next h = (refl, h)
+stage-passed (Refused r) next h = let z : _≡_ {A = ℕ} 0 1 = cc in absurd (omega arith)
+
+pub few-edges : (c : Call) → lengthsChecked c ≡ Passed → edgesIn (c .list) ≤ 4096
+unfolding lengthsChecked listChecked
+few-edges c h = ltb-false _ _ (if-passed (ltb 4096 (edgesIn (c .list))) TooMany Passed (if-passed (not (eqb (length (c .list) % 4) 0)) NotWhole _ (stage-passed (listChecked (c .list)) _ h .0) .1) .0)
+
+no-fault : (s : List ℤ) → edgesChecked s ≡ Passed → NoneBelow (edgeFault s) (edgesIn s)
+unfolding edgesChecked
+no-fault s h k l = let m : edgesIn s ≤ first (edgeFault s) (edgesIn s) = ltb-false _ _ (if-passed (ltb (first (edgeFault s) (edgesIn s)) (edgesIn s)) (faultOf s (first (edgeFault s) (edgesIn s))) Passed h .0) in first-least (edgeFault s) (edgesIn s) k (omega arith)
+
+pub ends-fit : (s : List ℤ) → edgesIn s ≤ 4096 → NoneBelow (edgeFault s) (edgesIn s) → EndsFit s (edgesIn s)
+unfolding edgesIn
+ends-fit s few none = record { all = refl; few = few; long = omega arith; in-range = λ e l. none-of s e (none e l) .0; two-ends = λ e l. none-of s e (none e l) .1 }
+
+pub checked-fit : (s : List ℤ) → edgesIn s ≤ 4096 → edgesChecked s ≡ Passed → EndsFit s (edgesIn s)
+checked-fit s few h = ends-fit s few (no-fault s h)

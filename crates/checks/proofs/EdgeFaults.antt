@@ -1,9 +1,9 @@
--- 5 to 7 at an edge. Tested against the top before it, an edge has a fault where the answer sheet says so: no point of the range is below the lowest
+-- 5 to 7 at an edge. Tested against the edge before it, an edge has a fault where the answer sheet says so: no point of the range is below the lowest
 -- one, which stands before the first edge. An edge without a fault has two ends, both in the range, and a top that does not fall.
 use mathlib.Core.Path.{_≡_, refl, sym, ap, _∙_}
 use mathlib.Core.Bool.{Bool, true, false, cond, _||_}
 use mathlib.Core.List.{List}
-use Prim.Native.Nat.{ℕ, zero, suc, _+_, _≤_}
+use Prim.Native.Nat.{ℕ, zero, suc, _+_, _≤_, _<_}
 use native.Mathlib.Numerals.{add-one}
 use lib.Dec.{leb}
 use lib.IntN.{ℤ, pos, negsuc}
@@ -16,18 +16,15 @@ use Rattle.sheet.specs.declared.Edge.{Edge}
 use Rattle.sheet.specs.Points.{sameZ, within, inRange, isSame, isBelow, isUp, topOf, bottomOf}
 use Rattle.sheet.specs.Edges.{edgeAt}
 use Rattle.sheet.specs.Answers.{pastRange, equalEnds, topFalls, edgeFault}
-use Rattle.checks.specs.Faults.{endPastRange, endsEqual, faultAfter, topBefore}
+use Rattle.checks.specs.Faults.{endPastRange, endsEqual, beforeFirst, faultAfter, edgeBefore, EndsFit}
 
 not-under : (z : ℤ) → within z ≡ true → ltZ z (negsuc 999999) ≡ false
 unfolding within
 not-under (pos n) h = refl
 not-under (negsuc n) h = let l : n ≤ 999999 = leb-true _ _ (both-true (leb n 999999) true h .0) in le-ltb 999999 n l
 
-lowest : Point
-lowest = record { x = negsuc 999999; y = negsuc 999999 }
-
-not-below-lowest : (p : Point) → inRange p ≡ true → isBelow p lowest ≡ false
-unfolding inRange isBelow lowest
+not-below-lowest : (p : Point) → inRange p ≡ true → isBelow p (topOf beforeFirst) ≡ false
+unfolding inRange isBelow topOf isUp sameZ
 not-below-lowest p h = let w = both-true (within (p .x)) (within (p .y)) h in by (sameZ (p .y) (negsuc 999999)) (not-under (p .x) (w .0)) (not-under (p .y) (w .1))
   where
     by : (t : Bool) {a b : Bool} → a ≡ false → b ≡ false → cond t a b ≡ false
@@ -52,8 +49,8 @@ unfolding endPastRange
 ends-in-range e h = both-true (inRange (e .tail)) (inRange (e .head)) (not-false _ h)
 
 -- the top of the first edge is not below the lowest point, unless it is out of the range
-pub fault-after : (s : List ℤ) (e : ℕ) → faultAfter (topBefore s e) (edgeAt s e) ≡ edgeFault s e
-unfolding faultAfter topBefore endPastRange pastRange equalEnds topFalls lowest
+pub fault-after : (s : List ℤ) (e : ℕ) → faultAfter (edgeBefore s e) (edgeAt s e) ≡ edgeFault s e
+unfolding faultAfter edgeBefore endPastRange pastRange equalEnds topFalls
 fault-after s zero = by (endPastRange (edgeAt s 0)) (endsEqual (edgeAt s 0)) (λ h. let w = ends-in-range (edgeAt s 0) h in not-below-lowest _ (top-in-range (edgeAt s 0) (w .0) (w .1)))
   where
     by : (past equal : Bool) {below : Bool} → (past ≡ false → below ≡ false) → (past || (equal || below)) ≡ (past || (equal || false))
@@ -61,15 +58,15 @@ fault-after s zero = by (endPastRange (edgeAt s 0)) (endsEqual (edgeAt s 0)) (λ
     by false equal h = ap (λ (b : Bool). equal || b) (h refl)
 fault-after s (suc e) = refl
 
--- the top before the next edge
-pub top-before-next : (s : List ℤ) (e : ℕ) → topBefore s (e + 1) ≡ topOf (edgeAt s e)
-unfolding topBefore
-top-before-next s e = rw add-one
+-- the edge before the next one
+pub edge-before-next : (s : List ℤ) (e : ℕ) → edgeBefore s (e + 1) ≡ edgeAt s e
+unfolding edgeBefore
+edge-before-next s e = rw add-one
 
 -- what the tests answer of an edge that was read
 module _ (s : List ℤ) (e : ℕ) {edge : Edge} {r : Bool} (read : edge ≡ edgeAt s e) where
-  pub fault-told : {before : Point} → before ≡ topBefore s e → r ≡ faultAfter before edge → edgeFault s e ≡ r
-  fault-told b h = sym (fault-after s e) ∙ ap (λ (p : Point). faultAfter p (edgeAt s e)) (sym b) ∙ ap (faultAfter _) (sym read) ∙ sym h
+  pub fault-told : {before : Edge} → before ≡ edgeBefore s e → r ≡ faultAfter before edge → edgeFault s e ≡ r
+  fault-told b h = sym (fault-after s e) ∙ ap (λ (f : Edge). faultAfter f (edgeAt s e)) (sym b) ∙ ap (faultAfter _) (sym read) ∙ sym h
 
   pub past-told : r ≡ endPastRange edge → pastRange s e ≡ r
   unfolding pastRange endPastRange
@@ -79,18 +76,19 @@ module _ (s : List ℤ) (e : ℕ) {edge : Edge} {r : Bool} (read : edge ≡ edge
   unfolding equalEnds
   equal-told h = ap endsEqual (sym read) ∙ sym h
 
-module _ (s : List ℤ) (e : ℕ) (none : edgeFault s e ≡ false) where
-  pub tail-in-range : inRange (edgeAt s e .tail) ≡ true
-  unfolding pastRange endPastRange
-  tail-in-range = ends-in-range (edgeAt s e) (neither-true _ _ none .0) .0
+-- 5 to 7 one by one
+pub none-of : (s : List ℤ) (e : ℕ) → edgeFault s e ≡ false → (pastRange s e ≡ false) × (equalEnds s e ≡ false) × (topFalls s e ≡ false)
+none-of s e none = let a = neither-true (pastRange s e) _ none in let b = neither-true (equalEnds s e) _ (a .1) in (a .0, b .0, b .1)
 
-  pub head-in-range : inRange (edgeAt s e .head) ≡ true
+module _ {s : List ℤ} {n : ℕ} (E : EndsFit s n) (e : ℕ) (l : e < n) where
+  pub tail-in : inRange (edgeAt s e .tail) ≡ true
   unfolding pastRange endPastRange
-  head-in-range = ends-in-range (edgeAt s e) (neither-true _ _ none .0) .1
+  tail-in = ends-in-range (edgeAt s e) (E .in-range e l) .0
+
+  pub head-in : inRange (edgeAt s e .head) ≡ true
+  unfolding pastRange endPastRange
+  head-in = ends-in-range (edgeAt s e) (E .in-range e l) .1
 
   pub ends-differ : isSame (edgeAt s e .tail) (edgeAt s e .head) ≡ false
   unfolding equalEnds
-  ends-differ = neither-true _ _ (neither-true (pastRange s e) _ none .1) .0
-
-  pub top-stays : topFalls s e ≡ false
-  top-stays = neither-true (equalEnds s e) _ (neither-true (pastRange s e) _ none .1) .1
+  ends-differ = E .two-ends e l

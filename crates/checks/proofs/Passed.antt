@@ -4,7 +4,8 @@ use mathlib.Core.Path.{_≡_, refl, sym, ap, _∙_}
 use mathlib.Core.Bool.{true, false}
 use mathlib.Core.List.{List}
 use mathlib.Core.Logic.{⊎-elim}
-use Prim.Native.Nat.{ℕ, _+_, _*_, _/_, _%_, _≤_, _<_}
+use Prim.Native.Nat.{ℕ, suc, _+_, _*_, _%_, _≤_, _<_}
+use native.Mathlib.Numerals.{add-one}
 use native.Mathlib.Omega.{arith}
 use lib.IntN.{ℤ}
 use lib.ListN.{length}
@@ -15,16 +16,18 @@ use Rattle.laws.proofs.Counting.{count-none}
 use Rattle.laws.proofs.First.{none-below}
 use Rattle.laws.proofs.Searching.{NoneBelow}
 use Rattle.sheet.specs.declared.Check.the-variants.{Passed}
-use Rattle.sheet.specs.Points.{inRange}
+use Rattle.sheet.specs.Points.{inRange, topOf}
+use Rattle.sheet.specs.Rank.{rank}
 use Rattle.sheet.specs.Edges.{edgeAt, edgesIn, drawingOf, topHeight}
 use Rattle.sheet.specs.Sound.{SweepOrder}
 use Rattle.sheet.specs.Kinds.{Way, arriving, leaving, From, below, above, endOf, comes, numberAt}
-use Rattle.sheet.specs.Answers.{Call, notWhole, tooMany, listsDiffer, journalShort, sameFrom, sameKind, repeats, differ, uneven, checked}
+use Rattle.sheet.specs.Answers.{Call, notWhole, tooMany, listsDiffer, journalShort, topFalls, edgeFault, sameFrom, sameKind, repeats, differ, uneven, checked}
+use Rattle.sheet.proofs.Ranks.{rank-below, rank-same}
 use Rattle.sheet.proofs.Tops.{end-heights}
 use Rattle.sheet.proofs.Checked.{Checked}
-use Rattle.checks.specs.Faults.{Faultless}
-use Rattle.checks.specs.Keys.{topKey}
-use Rattle.checks.proofs.Keys.{Goes, up, down, goes, top-rank, tail-in, head-in, tops-rise}
+use Rattle.checks.specs.Faults.{EndsFit}
+use Rattle.checks.proofs.EdgeFaults.{top-in-range, none-of, tail-in, head-in, ends-differ}
+use Rattle.checks.proofs.Answering.{ends-fit}
 use Rattle.checks.proofs.AnswerSheet.{LengthsFit, Row, no-row, exactly}
 
 pub record AllPassed (c : Call) : Type 0 where
@@ -76,28 +79,32 @@ module _ (s : List ℤ) (level : NoneBelow (uneven (drawingOf s)) (edgesIn s)) (
   even = ⊎-elim (λ h. nobody h arriving ∙ sym (nobody h leaving)) differ-not (true-or-false (differ (drawingOf s) p))
 
 -- 5 to 7 are not given
-module _ {s : List ℤ} (F : Faultless s (edgesIn s)) where
+module _ {s : List ℤ} (E : EndsFit s (edgesIn s)) (none : NoneBelow (edgeFault s) (edgesIn s)) where
   proper : (e : ℕ) → e < edgesIn s → drawingOf s .tail e ≡ drawingOf s .head e → ⊥
-  proper e l q = by (goes F e l)
-    where
-      by : Goes s e → ⊥
-      by (up h t b) = omega arith
-      by (down h t b) = omega arith
+  unfolding drawingOf
+  proper e l q = not-both (rank-same _ _ (tail-in E e l) (head-in E e l) ∙ eq-eqb (rank (edgeAt s e .tail)) (rank (edgeAt s e .head)) q) (ends-differ E e l)
 
-  top-height : (e : ℕ) → e < edgesIn s → topKey s e / 2 ≡ topHeight (drawingOf s) e
-  top-height e l = top-rank s e ∙ end-heights s e (tail-in F e l) (head-in F e l) .top
+  top-height : (e : ℕ) → e < edgesIn s → rank (topOf (edgeAt s e)) ≡ topHeight (drawingOf s) e
+  top-height e l = end-heights s e (tail-in E e l) (head-in E e l) .top
+
+  top-in : (e : ℕ) → e < edgesIn s → inRange (topOf (edgeAt s e)) ≡ true
+  top-in e l = top-in-range _ (tail-in E e l) (head-in E e l)
+
+  rises : (e : ℕ) → suc e < edgesIn s → rank (topOf (edgeAt s e)) ≤ rank (topOf (edgeAt s (suc e)))
+  unfolding topFalls
+  rises e l = ltb-false _ _ (sym (rank-below _ _ (top-in (suc e) l) (top-in e (omega arith))) ∙ none-of s (suc e) (none (suc e) l) .2)
 
   order : SweepOrder (drawingOf s)
   unfolding drawingOf
-  order e l = omega (arith, top-height e (omega arith), top-height (e + 1) l, tops-rise F e (e + 1) (omega arith) l)
+  order e l = rw add-one (omega (arith, top-height e (omega arith), top-height (suc e) (omega arith), rises e (omega arith)))
 
-pub sheet-checked : (s : List ℤ) → Faultless s (edgesIn s) → NoneBelow (repeats (drawingOf s)) (edgesIn s) → NoneBelow (uneven (drawingOf s)) (edgesIn s) → Checked (drawingOf s)
+pub sheet-checked : (s : List ℤ) → edgesIn s ≤ 4096 → NoneBelow (edgeFault s) (edgesIn s) → NoneBelow (repeats (drawingOf s)) (edgesIn s) → NoneBelow (uneven (drawingOf s)) (edgesIn s) → Checked (drawingOf s)
 unfolding drawingOf
-sheet-checked s F once level = record {
+sheet-checked s few none once level = record {
   flat = λ p q f h. h;
   one-film = λ e l. refl;
-  proper = proper F;
-  order = order F;
+  proper = proper (ends-fit s few none) none;
+  order = order (ends-fit s few none) none;
   sound = record { single = single s once; even = even s level };
   parted = λ e l a. absurd (not-both a refl);
 }
@@ -122,16 +129,16 @@ module _ (c : Call) (l : LengthsFit c) where
 
 all-passed : (c : Call) → Row c Passed → AllPassed c
 all-passed c (no-row l f r u) =
-    let F : Faultless (c .list) (edgesIn (c .list)) = record { all = refl; few = few c l; long = omega (arith, whole c l); none = f } in
+    let E = ends-fit (c .list) (few c l) f in
     record {
       whole = whole c l;
       few = few c l;
       polygons = one-each c l .0;
       sequences = one-each c l .1;
       journal = long c l;
-      tails-in-range = tail-in F;
-      heads-in-range = head-in F;
-      sheet = sheet-checked (c .list) F r u;
+      tails-in-range = tail-in E;
+      heads-in-range = head-in E;
+      sheet = sheet-checked (c .list) (few c l) f r u;
     }
 
 pub passed : (c : Call) → checked c ≡ Passed → AllPassed c

@@ -1,106 +1,157 @@
--- The words of the bottoms, in order. A word gives its edge's key and place back. The words of one key stand together, by place, so that an earlier
--- edge has a word's key where the word before has it; and a key is in as many words as edges have it.
-use mathlib.Core.Path.{_≡_, sym, ap, _∙_}
-use mathlib.Core.Bool.{true, false}
+-- The words of the ends. A word gives its end's place, the edge's kind there and the edge back. At its top an edge comes from below and at its bottom
+-- from above, so the words that are packed are those of all the ends, each once; and so are the words that the sort leaves.
+use mathlib.Core.Path.{_≡_, refl, sym, ap, _∙_}
+use mathlib.Core.Bool.{Bool, true, false, not, cond}
 use mathlib.Core.List.{List}
-use mathlib.Core.Logic.{⊎-elim}
+use mathlib.Core.Logic.{_⊎_, inl, inr, ⊎-elim}
 use Prim.Native.Nat.{ℕ, _+_, _-_, _*_, _/_, _%_, _≤_, _<_}
 use native.Mathlib.Omega.{arith}
-use lib.Dec.{eqb, ltb}
 use lib.IntN.{ℤ}
-use lib.ListN.{length, getD, set}
+use lib.ListN.{length, getD, set, length-set}
 use lib.Seq.{getD-set-same, getD-set-other}
-use borrow.Author.Tests.{lt-ltb, ltb-true, eq-eqb, ne-eqb, eqb-true}
-use Rattle.laws.proofs.Deciding.{lt-or-le, true-or-false, not-both, both-true}
-use Rattle.laws.proofs.Counting.{count-same}
-use Rattle.laws.proofs.First.{below-some, below-none}
-use Rattle.laws.proofs.Pigeonhole.{onto-count}
+use borrow.Author.Tests.{lt-ltb, le-ltb, ltb-true, ltb-false, eq-eqb}
+use Rattle.laws.specs.Counting.{bit}
+use Rattle.laws.proofs.Deciding.{lt-or-le, not-both}
+use Rattle.sheet.specs.declared.Point.{Point}
+use Rattle.sheet.specs.declared.Edge.{Edge}
+use Rattle.sheet.specs.Points.{inRange, isBelow, isUp, topOf, bottomOf}
+use Rattle.sheet.specs.Rank.{rank}
+use Rattle.sheet.specs.Edges.{edgeAt, drawingOf}
+use Rattle.sheet.specs.Kinds.{Way, arriving, leaving, From, below, above, otherWay, endOf, comes}
+use Rattle.sheet.proofs.Ranks.{rank-below, rank-same}
 use Rattle.sorting.specs.Sorted.{Sorted}
-use Rattle.sorting.proofs.Standing.{old-stands, new-stood, strictly-rising}
-use Rattle.checks.specs.Faults.{Faultless}
-use Rattle.checks.specs.Keys.{bottomKey, wordOf, keyIn, placeIn, Ordered}
-use Rattle.checks.specs.Meetings.{keysAt}
-use Rattle.checks.specs.Twins.{twin, nextTwin}
+use Rattle.sorting.proofs.Standing.{Different, old-stands, new-stood, strictly-rising}
+use Rattle.checks.specs.Faults.{EndsFit}
+use Rattle.checks.specs.Ends.{wayNumber, fromNumber, placeNumber, endWord, wordOf, wayIf, topWay, topWord, bottomWord, Packed, IsEnd, Ordered}
+use Rattle.checks.proofs.EdgeFaults.{tail-in, head-in, ends-differ}
 
-module _ (s : List ℤ) (e : ℕ) (small : e < 4096) where
-  word-key : wordOf s e / 4096 ≡ bottomKey s e
+pub from-small : (f : From) → fromNumber f ≤ 1
+from-small below = omega arith
+from-small above = omega arith
+
+pub way-small : (w : Way) → wayNumber w ≤ 1
+way-small arriving = omega arith
+way-small leaving = omega arith
+
+-- what a word tells
+module _ (s : List ℤ) (w : Way) (e : ℕ) (small : e < 4096) where
+  pub word-edge : wordOf s w e % 4096 ≡ e
+  unfolding wordOf
+  word-edge = omega arith
+
+  pub word-key : wordOf s w e / 4096 ≡ placeNumber (endOf (drawingOf s) w e) * 4 + (2 * wayNumber w + fromNumber (comes (drawingOf s) w e))
   unfolding wordOf
   word-key = omega arith
 
-  word-place : wordOf s e % 4096 ≡ e
+  pub word-place : wordOf s w e / 16384 ≡ placeNumber (endOf (drawingOf s) w e)
   unfolding wordOf
-  word-place = omega arith
+  word-place = omega (arith, from-small (comes (drawingOf s) w e), way-small w)
 
--- a word is put together from the key
-pub word-told : (s : List ℤ) (e : ℕ) {k : ℕ} → k ≡ bottomKey s e → k * 4096 + e ≡ wordOf s e
-unfolding wordOf
-word-told s e q = omega arith
+  pub word-way : wordOf s w e / 8192 % 2 ≡ wayNumber w
+  unfolding wordOf
+  word-way =
+      let h : wordOf s w e / 8192 ≡ placeNumber (endOf (drawingOf s) w e) * 2 + wayNumber w = omega (arith, from-small (comes (drawingOf s) w e), way-small w) in
+      omega (arith, h, way-small w)
 
--- one more word packed
-pub packed-more : (s : List ℤ) (words : List ℕ) (e w : ℕ) → ((k : ℕ) → k < e → getD words k 0 ≡ wordOf s k) → w ≡ wordOf s e → e < length words → (k : ℕ) → k < e + 1 → getD (set words e w) k 0 ≡ wordOf s k
-packed-more s words e w h q l k m = ⊎-elim (λ t. getD-set-other words e k w 0 (λ i. omega arith) ∙ h k t) (λ t. let i : k ≡ e = omega arith in rw i (getD-set-same words e w 0 l ∙ q)) (lt-or-le k e)
+-- the words that are put together from what was read
+module _ {s : List ℤ} {n : ℕ} (E : EndsFit s n) (e : ℕ) (l : e < n) where
+  tail : Point
+  tail = edgeAt s e .tail
+
+  head : Point
+  head = edgeAt s e .head
+
+  higher : isBelow tail head ≡ true → rank tail < rank head
+  unfolding tail head
+  higher u = ltb-true _ _ (sym (rank-below tail head (tail-in E e l) (head-in E e l)) ∙ u)
+
+  lower : isBelow tail head ≡ false → rank head < rank tail
+  unfolding tail head
+  lower u =
+      let le : rank head ≤ rank tail = ltb-false _ _ (sym (rank-below tail head (tail-in E e l) (head-in E e l)) ∙ u) in
+      ⊎-elim (λ h. h) (λ h. absurd (not-both (rank-same tail head (tail-in E e l) (head-in E e l) ∙ eq-eqb (rank tail) (rank head) (omega arith)) (ends-differ E e l))) (lt-or-le (rank head) (rank tail))
+
+  module _ {edge : Edge} (read : edge ≡ edgeAt s e) {p : Point} {up : Bool} (way : up ≡ isUp edge) where
+    pub top-told : p ≡ topOf edge → endWord (rank p) (2 * bit up + 1) e ≡ topWord s e
+    unfolding wordOf topWay topOf isUp comes drawingOf tail head
+    top-told q = rw (q, way, read) (by (isBelow tail head) refl)
+      where
+        by : (u : Bool) → isBelow tail head ≡ u → endWord (rank (cond u head tail)) (2 * bit u + 1) e ≡ wordOf s (wayIf u) e
+        by true u = rw (lt-ltb (rank tail) (rank head) (higher u))
+        by false u = rw (lt-ltb (rank head) (rank tail) (lower u))
+
+    pub bottom-told : p ≡ bottomOf edge → endWord (rank p) (2 * bit (not up)) e ≡ bottomWord s e
+    unfolding wordOf topWay bottomOf isUp comes drawingOf tail head
+    bottom-told q = rw (q, way, read) (by (isBelow tail head) refl)
+      where
+        by : (u : Bool) → isBelow tail head ≡ u → endWord (rank (cond u tail head)) (2 * bit (not u)) e ≡ wordOf s (otherWay (wayIf u)) e
+        by true u = rw (le-ltb (rank head) (rank tail) (omega (arith, higher u)))
+        by false u = rw (le-ltb (rank tail) (rank head) (omega (arith, lower u)))
+
+-- one more edge packed
+pub packed-more : {s : List ℤ} {words : List ℕ} {n m top bottom : ℕ} → Packed s words n m → m < n → 2 * n ≤ length words → top ≡ topWord s m → bottom ≡ bottomWord s m → Packed s (set (set words m top) (n + m) bottom) n (m + 1)
+packed-more {words = words} {n} {m} {top} {bottom} P l room t b = record {
+  tops = λ e h. getD-set-other (set words m top) (n + m) e bottom 0 (λ q. omega arith) ∙ ⊎-elim
+      (λ g. getD-set-other words m e top 0 (λ q. omega arith) ∙ P .tops e g)
+      (λ g. let q : e ≡ m = omega arith in rw q (getD-set-same words m top 0 (omega arith) ∙ t))
+      (lt-or-le e m);
+  bottoms = λ e h. ⊎-elim
+      (λ g. getD-set-other (set words m top) (n + m) (n + e) bottom 0 (λ q. omega arith) ∙ getD-set-other words m (n + e) top 0 (λ q. omega arith) ∙ P .bottoms e g)
+      (λ g. let q : e ≡ m = omega arith in rw q (getD-set-same (set words m top) (n + m) bottom 0 (omega (arith, length-set words m top)) ∙ b))
+      (lt-or-le e m);
+}
+
+-- a way is that to the top or that to the bottom
+either : (s : List ℤ) (w : Way) (e : ℕ) → (w ≡ topWay s e) ⊎ (w ≡ otherWay (topWay s e))
+unfolding topWay
+either s w e = by w (isUp (edgeAt s e))
+  where
+    by : (w : Way) (u : Bool) → (w ≡ wayIf u) ⊎ (w ≡ otherWay (wayIf u))
+    by arriving true = inl refl
+    by arriving false = inr refl
+    by leaving true = inr refl
+    by leaving false = inl refl
+
+two-ways : (w : Way) → wayNumber w ≡ wayNumber (otherWay w) → ⊥
+two-ways arriving h = omega arith
+two-ways leaving h = omega arith
 
 -- the sort of the packed words
-pub ordered : (s : List ℤ) (old new : List ℕ) (n : ℕ) → n ≤ 4096 → ((e : ℕ) → e < n → getD old e 0 ≡ wordOf s e) → Sorted old new n → Ordered s new n
-ordered s old new n few packed m = record {
-  rising = strictly-rising m (λ i j il jl q. sym (word-place s i (omega arith)) ∙ ap (λ (w : ℕ). w % 4096) (sym (packed i il) ∙ q ∙ packed j jl) ∙ word-place s j (omega arith));
-  stands = λ e l. let v = old-stands m e l in (v .0, v .1, v .2 ∙ packed e l);
-  held = held;
-}
-  where
-    held : (k : ℕ) → k < n → (placeIn new k < n) × (getD new k 0 ≡ wordOf s (placeIn new k))
-    held k l =
-        let v = new-stood m k l in
-        let w : getD new k 0 ≡ wordOf s (v .0) = sym (v .2) ∙ packed (v .0) (v .1) in
-        let q : placeIn new k ≡ v .0 = ap (λ (x : ℕ). x % 4096) w ∙ word-place s (v .0) (omega (arith, v .1)) in
-        (omega (arith, q, v .1), w ∙ ap (wordOf s) (sym q))
+module _ {s : List ℤ} {old new : List ℕ} {n : ℕ} (few : n ≤ 4096) (P : Packed s old n n) (S : Sorted old new (2 * n)) where
+  -- an end that is packed: a top, or a bottom behind all the tops
+  data Spot (i : ℕ) : Type 0 where
+    top : i < n → getD old i 0 ≡ topWord s i → Spot i
+    bottom : (e : ℕ) → e < n → i ≡ n + e → getD old i 0 ≡ bottomWord s e → Spot i
 
-module _ {s : List ℤ} {words : List ℕ} {n : ℕ} (F : Faultless s n) (O : Ordered s words n) where
-  pub key-at : (k : ℕ) → k < n → keyIn words k ≡ bottomKey s (placeIn words k)
-  key-at k l = let h = O .held k l in ap (λ (x : ℕ). x / 4096) (h .1) ∙ word-key s (placeIn words k) (omega (arith, h .0, F .few))
+  spot : (i : ℕ) → i < 2 * n → Spot i
+  spot i l = ⊎-elim (λ h. top h (P .tops i h)) (λ h. let q : i ≡ n + (i - n) = omega arith in bottom (i - n) (omega arith) q (ap (λ k. getD old k 0) q ∙ P .bottoms (i - n) (omega arith))) (lt-or-le i n)
 
-  -- where the word of an edge stands
-  pub place-onto : (e : ℕ) → e < n → (k : ℕ) × (k < n) × (placeIn words k ≡ e)
-  place-onto e l = let v = O .stands e l in (v .0, v .1, ap (λ (x : ℕ). x % 4096) (v .2) ∙ word-place s e (omega (arith, F .few)))
+  not-top : (e f : ℕ) → e < n → f < n → topWord s e ≡ bottomWord s f → ⊥
+  not-top e f el fl h =
+      let q : e ≡ f = sym (word-edge s (topWay s e) e (omega arith)) ∙ ap (λ (x : ℕ). x % 4096) h ∙ word-edge s (otherWay (topWay s f)) f (omega arith) in
+      two-ways (topWay s f) (ap (λ k. wayNumber (topWay s k)) (sym q) ∙ sym (word-way s (topWay s e) e (omega arith)) ∙ ap (λ (x : ℕ). x / 8192 % 2) h ∙ word-way s (otherWay (topWay s f)) f (omega arith))
 
-  words-rise : (a b : ℕ) → a ≤ b → b < n → getD words a 0 ≤ getD words b 0
-  words-rise a b l h = ⊎-elim (λ t. omega (arith, O .rising a b t h)) (λ t. let q : a ≡ b = omega arith in omega (arith, ap (λ (x : ℕ). getD words x 0) q)) (lt-or-le a b)
-
-  pub keys-rise : (a b : ℕ) → a ≤ b → b < n → keyIn words a / 2 ≤ keyIn words b / 2
-  keys-rise a b l h = let k : keyIn words a ≤ keyIn words b = omega (arith, words-rise a b l h) in omega (arith, k)
-
-  -- the word before has the key: its edge is an earlier one
-  next-is-twin : (k : ℕ) → k < n → nextTwin (keyIn words) k ≡ true → twin (bottomKey s) (placeIn words k) ≡ true
-  unfolding nextTwin twin
-  next-is-twin k l h =
-      let w = both-true (ltb 0 k) _ h in
-      let pos : 0 < k = ltb-true _ _ (w .0) in
-      let q : keyIn words (k - 1) ≡ keyIn words k = eqb-true _ _ (w .1) in
-      let kl : k - 1 < n = omega arith in
-      below-some _ (placeIn words k) (placeIn words (k - 1)) (omega (arith, q, O .rising (k - 1) k (omega arith) l)) (eq-eqb _ _ (sym (key-at (k - 1) kl) ∙ q ∙ key-at k l))
-
-  -- an earlier edge has the key: its word stands before, and the words between have the key too
-  twin-is-next : (k : ℕ) → k < n → nextTwin (keyIn words) k ≡ false → twin (bottomKey s) (placeIn words k) ≡ false
-  unfolding nextTwin twin
-  twin-is-next k l h = below-none _ (placeIn words k) (λ f fk. ne-eqb _ _ (λ q. between f fk q))
+  different : Different old (2 * n)
+  different i j il jl q = by (spot i il) (spot j jl)
     where
-      between : (f : ℕ) → f < placeIn words k → bottomKey s f ≡ bottomKey s (placeIn words k) → ⊥
-      between f fk q =
-          let fn : f < n = omega (arith, O .held k l .0) in
-          let v = O .stands f fn in
-          let fs : f < 4096 = omega (arith, F .few) in
-          let vk : keyIn words (v .0) ≡ keyIn words k = ap (λ (x : ℕ). x / 4096) (v .2) ∙ word-key s f fs ∙ q ∙ sym (key-at k l) in
-          let vp : placeIn words (v .0) ≡ f = ap (λ (x : ℕ). x % 4096) (v .2) ∙ word-place s f fs in
-          let lt : getD words (v .0) 0 < getD words k 0 = omega (arith, vk, vp, fk) in
-          let vl : v .0 < k = ⊎-elim (λ t. t) (λ t. absurd (omega (arith, lt, words-rise k (v .0) t (v .1)))) (lt-or-le (v .0) k) in
-          let up : getD words (v .0) 0 ≤ getD words (k - 1) 0 = words-rise (v .0) (k - 1) (omega arith) (omega arith) in
-          let on : getD words (k - 1) 0 ≤ getD words k 0 = words-rise (k - 1) k (omega arith) l in
-          let same : keyIn words (k - 1) ≡ keyIn words k = omega (arith, vk, up, on) in
-          not-both (rw (lt-ltb 0 k (omega arith)) (eq-eqb (keyIn words (k - 1)) (keyIn words k) same)) h
+      by : Spot i → Spot j → i ≡ j
+      by (top a x) (top b y) = omega (arith, word-edge s (topWay s i) i (omega arith), word-edge s (topWay s j) j (omega arith), ap (λ (x : ℕ). x % 4096) (sym x ∙ q ∙ y))
+      by (top a x) (bottom f b h y) = absurd (not-top i f a b (sym x ∙ q ∙ y))
+      by (bottom e a g x) (top b y) = absurd (not-top j e b a (sym y ∙ sym q ∙ x))
+      by (bottom e a g x) (bottom f b h y) = omega (arith, word-edge s (otherWay (topWay s e)) e (omega arith), word-edge s (otherWay (topWay s f)) f (omega arith), ap (λ (x : ℕ). x % 4096) (sym x ∙ q ∙ y))
 
-  pub next-twin : (k : ℕ) → k < n → nextTwin (keyIn words) k ≡ twin (bottomKey s) (placeIn words k)
-  next-twin k l = ⊎-elim (λ h. h ∙ sym (next-is-twin k l h)) (λ h. h ∙ sym (twin-is-next k l h)) (true-or-false (nextTwin (keyIn words) k))
+  pub ordered : Ordered s new n
+  ordered = record { rising = strictly-rising S different; stands = stands; held = held }
+    where
+      at : (w : Way) (e i : ℕ) → i < 2 * n → getD old i 0 ≡ wordOf s w e → (k : ℕ) × (k < 2 * n) × (getD new k 0 ≡ wordOf s w e)
+      at w e i l q = let v = old-stands S i l in (v .0, v .1, v .2 ∙ q)
 
-  -- as many words as edges have a key
-  pub words-at : (key : ℕ) → keysAt (keyIn words) key n ≡ keysAt (bottomKey s) key n
-  words-at key = count-same _ _ n (λ k l. ap (λ (x : ℕ). eqb x key) (key-at k l)) ∙ onto-count (placeIn words) n place-onto (λ e. eqb (bottomKey s e) key)
+      stands : (w : Way) (e : ℕ) → e < n → (k : ℕ) × (k < 2 * n) × (getD new k 0 ≡ wordOf s w e)
+      stands w e l = ⊎-elim (λ h. rw h (at (topWay s e) e e (omega arith) (P .tops e l))) (λ h. rw h (at (otherWay (topWay s e)) e (n + e) (omega arith) (P .bottoms e l))) (either s w e)
+
+      end : (i k : ℕ) → getD old i 0 ≡ getD new k 0 → Spot i → IsEnd s n (getD new k 0)
+      end i k q (top a x) = record { way = topWay s i; edge = i; is-edge = a; told = sym q ∙ x }
+      end i k q (bottom e a g x) = record { way = otherWay (topWay s e); edge = e; is-edge = a; told = sym q ∙ x }
+
+      held : (k : ℕ) → k < 2 * n → IsEnd s n (getD new k 0)
+      held k l = let v = new-stood S k l in end (v .0) k (v .2) (spot (v .0) (v .1))

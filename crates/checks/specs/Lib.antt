@@ -1,6 +1,5 @@
 -- The definitions of the checks.
+pub mod Stages
 pub mod Faults
-pub mod Keys
-pub mod Twins
-pub mod Meetings
-pub mod KindsChecked
+pub mod Ends
+pub mod Places

@@ -1,4 +1,5 @@
-// 5 to 7: what is wrong with one edge, or with its top after the top before.
+// 5 to 7: what is wrong with one edge, or with its top after the top of the edge before.
+use sheet::Check;
 use sheet::Edge;
 use sheet::Point;
 use sheet::Refusal;
@@ -6,11 +7,13 @@ ghost use mathlib.Core.Path.{_≡_};
 ghost use Prim.Native.Nat.{_+_, _*_, _<_, _≤_};
 ghost use lib.ListN.{length};
 ghost use Rattle.laws.specs.Counting.{first};
-ghost use Rattle.sheet.specs.Points.{isBelow};
+ghost use Rattle.sheet.specs.Edges.{edgesIn};
 ghost use Rattle.sheet.specs.Answers.{edgeFault, faultOf};
-ghost use Rattle.checks.specs.Faults.{endPastRange, endsEqual, faultAfter, firstRefusal};
+ghost use Rattle.checks.specs.Faults.{endPastRange, endsEqual, topBelow, beforeFirst, faultAfter, firstRefusal};
+ghost use Rattle.checks.specs.Stages.{edgesChecked};
 
-fn past_range(edge: Edge) -> bool
+// 5: an end is out of the range.
+pub fn past_range(edge: Edge) -> bool
     ensures { λ r. ⌜ r ≡ endPastRange edge ⌝ }
 {
     let tail = edge.tail;
@@ -21,7 +24,8 @@ fn past_range(edge: Edge) -> bool
     true
 }
 
-fn equal_ends(edge: Edge) -> bool
+// 6: both ends are one point.
+pub fn equal_ends(edge: Edge) -> bool
     ensures { λ r. ⌜ r ≡ endsEqual edge ⌝ }
 {
     let tail = edge.tail;
@@ -29,14 +33,17 @@ fn equal_ends(edge: Edge) -> bool
     tail.same(head)
 }
 
-fn top_falls(top: Point, before: Point) -> bool
-    ensures { λ r. ⌜ r ≡ isBelow top before ⌝ }
+// 7: the top is below that of the edge before.
+pub fn top_falls(edge: Edge, before: Edge) -> bool
+    ensures { λ r. ⌜ r ≡ topBelow edge before ⌝ }
 {
-    top.below(before)
+    let top = edge.top();
+    let last = before.top();
+    top.below(last)
 }
 
-// Whether 5, 6 or 7 holds of an edge whose top comes after another top.
-fn has_fault(edge: Edge, before: Point) -> bool
+// Whether an edge that stands after another has 5, 6 or 7.
+fn has_fault(edge: Edge, before: Edge) -> bool
     ensures { λ r. ⌜ r ≡ faultAfter before edge ⌝ }
 {
     if past_range(edge) {
@@ -45,25 +52,36 @@ fn has_fault(edge: Edge, before: Point) -> bool
     if equal_ends(edge) {
         return true;
     }
-    top_falls(edge.top(), before)
+    top_falls(edge, before)
 }
 
-// The first edge with 5, 6 or 7, n where there is none. Before the first edge stands the lowest point, which no point of the range is below.
-pub fn first_fault(edges: &[i32], n: usize) -> usize
-    requires { ⌜ 4 * n ≤ length (now edges) ⌝ }
-    ensures { λ r. ⌜ r ≡ first (edgeFault (now (edges .entry))) n ⌝ }
+// What stands before the first edge: its top is the lowest point, which no point of the range is below.
+fn before_first() -> Edge
+    ensures { λ r. ⌜ r ≡ beforeFirst ⌝ }
 {
-    let mut before = Point {
+    let lowest = Point {
         x: Point::LEAST,
         y: Point::LEAST,
     };
+    Edge {
+        tail: lowest,
+        head: lowest,
+    }
+}
+
+// The first of n edges with 5, 6 or 7, n where there is none.
+fn first_fault(edges: &[i32], n: usize) -> usize
+    requires { ⌜ 4 * n ≤ length (now edges) ⌝ }
+    ensures { λ r. ⌜ r ≡ first (edgeFault (now (edges .entry))) n ⌝ }
+{
+    let mut before = before_first();
     let mut e: usize = 0;
     while e < n {
         let edge = Edge::at(edges, e);
         if has_fault(edge, before) {
             return e;
         }
-        before = edge.top();
+        before = edge;
         e += 1;
     }
     n
@@ -83,10 +101,23 @@ fn first_refusal(past: bool, equal: bool, place: u32) -> Refusal
 }
 
 // Which of the three an edge has that has one.
-pub fn fault_of(edges: &[i32], e: usize) -> Refusal
+fn fault_of(edges: &[i32], e: usize) -> Refusal
     requires { ⌜ (4 * e + 3 < length (now edges)) × (e < 4096) ⌝ }
     ensures { λ r. ⌜ r ≡ faultOf (now (edges .entry)) e ⌝ }
 {
     let edge = Edge::at(edges, e);
     first_refusal(past_range(edge), equal_ends(edge), e as u32)
+}
+
+// 5 to 7 of a list that passes 2.
+pub fn check(edges: &[i32]) -> Check
+    requires { ⌜ edgesIn (now edges) ≤ 4096 ⌝ }
+    ensures { λ r. ⌜ r ≡ edgesChecked (now (edges .entry)) ⌝ }
+{
+    let n = edges.len() / Edge::NUMBERS;
+    let fault = first_fault(edges, n);
+    if fault < n {
+        return Check::Refused(fault_of(edges, fault));
+    }
+    Check::Passed
 }

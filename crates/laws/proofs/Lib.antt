@@ -1,6 +1,7 @@
 -- The laws that other crates may cite.
 pub mod Deciding
 pub mod Counting
+pub mod Between
 pub mod First
 pub mod Lowest
 pub mod Further

@@ -1,8 +1,6 @@
 -- `checks::faults::has_fault` meets its contract: each way out computes from the tests that led there.
-use mathlib.Core.Path.{sym, ap, _∙_}
+use mathlib.Core.Path.{sym, _∙_}
 use borrow.Author.Needs.{needs}
-use Rattle.sheet.specs.declared.Point.{Point}
-use Rattle.sheet.specs.Points.{isBelow}
 use Rattle.checks.specs.Faults.{faultAfter}
 use Rattle.checks.proofs.faults.has_fault.Statement.{statement}
 use Rattle.checks.proofs.faults.has_fault.Tie as tie
@@ -17,11 +15,7 @@ returns-2 c = rw (sym (c .before .before .before .past-range .ensures) ∙ c .be
 
 returns-3 : tie.Need-returns-3
 unfolding faultAfter
-returns-3 c = let before = c .before .before .before .before .before .before .args .before in
-    rw (sym (c .before .before .before .before .before .past-range .ensures) ∙ c .before .before .before .before .if1 .left, sym (c .before .before .before .equal-ends .ensures) ∙ c .before .before .if2 .left)
-    (c .top-falls .ensures ∙ ap (λ (p : Point). isBelow p before) (c .before .top .ensures))
+returns-3 c = rw (sym (c .before .before .before .before .past-range .ensures) ∙ c .before .before .before .if1 .left, sym (c .before .before .equal-ends .ensures) ∙ c .before .if2 .left) (c .top-falls .ensures)
 
 pub has-fault-spec : {M : Type 1} → statement M
-has-fault-spec =
-    tie.close
-    (tie.spec (search needs) returns (search needs) returns-2 (search needs) (search needs) returns-3)
+has-fault-spec = tie.close (tie.spec (search needs) returns (search needs) returns-2 (search needs) returns-3)

@@ -1,0 +1,167 @@
+// 8 and 9: what is wrong at a place. One walk over all ends in order visits the places in rising order, each once. What is done at a place is
+// `at_place`, and what the walk carries is `AtFault`: whoever wants something else of the places changes these two.
+use crate::MOST_EDGES;
+use crate::ends;
+use sheet::Check;
+use sheet::Edge;
+use sheet::Refusal;
+ghost use mathlib.Core.Path.{_≡_};
+ghost use mathlib.Core.Bool.{cond};
+ghost use Prim.Native.Nat.{_+_, _*_, _/_, _%_, _<_, _≤_};
+ghost use lib.Dec.{eqb};
+ghost use lib.ListN.{length};
+ghost use Rattle.laws.specs.Counting.{count};
+ghost use Rattle.sheet.specs.Edges.{edgesIn};
+ghost use Rattle.checks.specs.Faults.{EndsFit};
+ghost use Rattle.checks.specs.Stages.{placesChecked};
+ghost use Rattle.checks.specs.Ends.{edgeIn, arrivesIn};
+ghost use Rattle.checks.specs.Places.{firstAtFault, Least, repeatsIn, anyEnd, unevenAt, Walks, Visited, AtPlace, Found};
+
+// Each end of a list, two for an edge.
+const MOST_ENDS: usize = 2 * MOST_EDGES;
+
+// The least edge of a kind that an earlier edge has at the same place, and the least with an end at a place where the arriving and the leaving edges
+// differ in number. Where there is none, the number of edges.
+pub struct AtFault {
+    pub repeated: usize,
+    pub uneven: usize,
+}
+
+// Where the ends stop that have the place of the end at from.
+fn place_end(words: &[u64], from: usize, m: usize) -> usize
+    requires { ⌜ Walks (now words) m × Visited (now words) m from × (from < m) ⌝ }
+    ensures { λ r. ⌜ AtPlace (now (words .entry)) m from r ⌝ }
+{
+    let place = ends::place_of(words[from]);
+    let mut to = from + 1;
+    while to < m {
+        if ends::place_of(words[to]) != place {
+            return to;
+        }
+        to += 1;
+    }
+    to
+}
+
+// The edge of a word that has the key of the word before, otherwise none.
+fn repeated_edge(before: u64, word: u64, none: usize) -> usize
+    ensures { λ r. ⌜ r ≡ cond (eqb (before / 4096) (word / 4096)) (word % 4096) none ⌝ }
+{
+    if ends::key_of(before) == ends::key_of(word) {
+        return ends::edge_of(word);
+    }
+    none
+}
+
+// Of the ends at a place, the least edge that an earlier edge is of one kind with.
+fn least_repeated(words: &[u64], from: usize, to: usize, none: usize) -> usize
+    requires { ⌜ (from < to) × (to ≤ length (now words)) ⌝ }
+    ensures { λ r. ⌜ Least (repeatsIn (now (words .entry))) (edgeIn (now (words .entry))) none (from + 1) to r ⌝ }
+{
+    let mut least = none;
+    let mut k = from + 1;
+    while k < to {
+        least = laws::lower_of(least, repeated_edge(words[k - 1], words[k], none));
+        k += 1;
+    }
+    least
+}
+
+// How many of the ends at a place are of edges that arrive.
+fn arriving(words: &[u64], from: usize, to: usize) -> usize
+    requires { ⌜ (from ≤ to) × (to ≤ length (now words)) × (to ≤ 8192) ⌝ }
+    ensures { λ r. ⌜ r + count (arrivesIn (now (words .entry))) from ≡ count (arrivesIn (now (words .entry))) to ⌝ }
+{
+    let mut number: usize = 0;
+    let mut k = from;
+    while k < to {
+        number += ends::arrival_of(words[k]);
+        k += 1;
+    }
+    number
+}
+
+// The least edge with an end at a place.
+fn least_edge(words: &[u64], from: usize, to: usize, none: usize) -> usize
+    requires { ⌜ (from ≤ to) × (to ≤ length (now words)) ⌝ }
+    ensures { λ r. ⌜ Least anyEnd (edgeIn (now (words .entry))) none from to r ⌝ }
+{
+    let mut least = none;
+    let mut k = from;
+    while k < to {
+        least = laws::lower_of(least, ends::edge_of(words[k]));
+        k += 1;
+    }
+    least
+}
+
+// The least edge with an end at a place, where the arriving and the leaving edges differ in number.
+fn least_uneven(words: &[u64], m: usize, from: usize, to: usize, none: usize) -> usize
+    requires { ⌜ Walks (now words) m × AtPlace (now words) m from to ⌝ }
+    ensures { λ r. ⌜ Least (unevenAt (now (words .entry)) m) (edgeIn (now (words .entry))) none from to r ⌝ }
+{
+    if 2 * arriving(words, from, to) == to - from {
+        return none;
+    }
+    least_edge(words, from, to, none)
+}
+
+// What is done at a place, whose ends stand from `from` to `to`.
+fn at_place(words: &[u64], m: usize, from: usize, to: usize, found: AtFault, none: usize) -> AtFault
+    requires place { ⌜ Walks (now words) m × AtPlace (now words) m from to ⌝ }
+    requires found { ⌜ Found (now words) m none from found ⌝ }
+    ensures { λ r. ⌜ Found (now (words .entry)) m none to r ⌝ }
+{
+    let repeated = least_repeated(words, from, to, none);
+    let uneven = least_uneven(words, m, from, to, none);
+    AtFault {
+        repeated: laws::lower_of(found.repeated, repeated),
+        uneven: laws::lower_of(found.uneven, uneven),
+    }
+}
+
+// The walk over m ends in order, place by place.
+fn walk(words: &[u64], m: usize, none: usize) -> AtFault
+    requires { ⌜ Walks (now words) m ⌝ }
+    ensures { λ r. ⌜ Found (now (words .entry)) m none m r ⌝ }
+{
+    let mut found = AtFault {
+        repeated: none,
+        uneven: none,
+    };
+    let mut from: usize = 0;
+    while from < m {
+        let to = place_end(words, from, m);
+        found = at_place(words, m, from, to, found, none);
+        from = to;
+    }
+    found
+}
+
+// The first edge with 8 and the first with 9. The words take 64 KB of stack, 8,192 of 8 bytes, and while they are sorted the sort's room takes 32 KB
+// more.
+pub fn first_at_fault(edges: &[i32]) -> AtFault
+    requires { ⌜ EndsFit (now edges) (edgesIn (now edges)) ⌝ }
+    ensures { λ r. ⌜ r ≡ firstAtFault (now (edges .entry)) ⌝ }
+{
+    let n = edges.len() / Edge::NUMBERS;
+    let mut words = [0u64; MOST_ENDS];
+    ends::order(edges, &mut words, n);
+    walk(&words, 2 * n, n)
+}
+
+// 8 over the whole list, then 9, of a list that passes 2, 5 and 6.
+pub fn check(edges: &[i32]) -> Check
+    requires { ⌜ EndsFit (now edges) (edgesIn (now edges)) ⌝ }
+    ensures { λ r. ⌜ r ≡ placesChecked (now (edges .entry)) ⌝ }
+{
+    let n = edges.len() / Edge::NUMBERS;
+    let found = first_at_fault(edges);
+    if found.repeated < n {
+        return Check::Refused(Refusal::Repeated(found.repeated as u32));
+    }
+    if found.uneven < n {
+        return Check::Refused(Refusal::Uneven(found.uneven as u32));
+    }
+    Check::Passed
+}
