@@ -1,112 +1,76 @@
-// The program: reads a sheet from standard input, numbers it with 256 rows lent, and prints the numbers, or why it is refused.
-// What is read, numbered and refused is settled by the crates below; here is only what is read and written.
+// The program: reads a sheet from standard input and prints its numbers, or why it is refused. What is printed is settled by crates/printing; here is only
+// what is read and written. Where standard input cannot be read nothing is printed, and where the output cannot be written that is said: both on standard error.
+use libc::STDERR_FILENO;
 use libc::STDIN_FILENO;
 use libc::STDOUT_FILENO;
-use sheet::Answer;
-use sheet::Edge;
-use text::Reading;
+use printing::Printed;
 ghost use Prim.Native.Nat.{_≤_};
 ghost use lib.ListN.{length};
+ghost use Rattle.printing.specs.Laid.{InFront};
+ghost use Rattle.outline.specs.Input.{Within};
 
-// A number and the byte after it.
-fn put(n: u64, end: u8) {
-    io::print_decimal(STDOUT_FILENO, n);
-    let e = [end; 1];
-    io::write_all(STDOUT_FILENO, &e);
+// How many bytes were read up to the end of the input or of the room, or that a read failed.
+enum Input {
+    Bytes(usize),
+    Failed,
 }
 
-fn show_refusal(number: u32, place: u32) {
-    io::write_all(STDOUT_FILENO, b"refused ");
-    put(number as u64, b' ');
-    put(place as u64, b'\n');
-}
-
-// The edges in the opposite order of the input: place, polygon, sequence.
-fn show_edges(polygons: &[u32], sequences: &[u32]) {
-    let mut i = polygons.len();
-    while 0 < i {
-        i -= 1;
-        put(i as u64, b' ');
-        put(number_at(polygons, i) as u64, b' ');
-        put(number_at(sequences, i) as u64, b'\n');
-    }
-}
-
-// The number at a place, 0 past the end.
-fn number_at(numbers: &[u32], i: usize) -> u32 {
-    if i < numbers.len() {
-        return numbers[i];
-    }
-    0
-}
-
-fn show_numbers(polygons: u32, peak: u32, records: u32) {
-    io::write_all(STDOUT_FILENO, b"accepted ");
-    put(polygons as u64, b' ');
-    put(peak as u64, b' ');
-    put(records as u64, b'\n');
-}
-
-// The rows that the program lends: 256 of 8 numbers.
-const ROOM: usize = 2048;
-
-fn show_answer(edges: &[i32], polygons: &mut [u32], sequences: &mut [u32], journal: &mut [i32]) {
-    let mut rows = [0i32; ROOM];
-    match numbering::number(edges, polygons, sequences, journal, &mut rows) {
-        Answer::Accepted {
-            polygons: count,
-            peak,
-            records,
-        } => {
-            show_numbers(count, peak, records);
-            show_edges(polygons, sequences);
-        }
-        Answer::Refused(refusal) => {
-            show_refusal(refusal.number(), refusal.place());
-        }
-    }
-}
-
-// The first n edges of the room, with lists of n numbers and a journal of 8 numbers an edge.
-fn number_edges(
-    edges: &[i32],
-    n: usize,
-    polygons: &mut [u32],
-    sequences: &mut [u32],
-    journal: &mut [i32],
-)
-    requires { ⌜ (n ≤ 512) × (2048 ≤ length (now edges)) × (512 ≤ length (now polygons)) × (512 ≤ length (now sequences)) × (4096 ≤ length (now journal)) ⌝ }
+// Reads until the input ends or the room is full.
+fn read_all(room: &mut [u8]) -> Input
+    ensures { λ r. ⌜ Within r (length (now (room .exit))) ⌝ }
 {
-    let numbers = Edge::NUMBERS * n;
-    let records = 8 * n;
-    show_answer(
-        &edges[..numbers],
-        &mut polygons[..n],
-        &mut sequences[..n],
-        &mut journal[..records],
-    );
+    let mut n = 0;
+    while n < room.len() {
+        let got = libc::read(STDIN_FILENO, &mut room[n..]);
+        if got < 0 {
+            return Input::Failed;
+        }
+        let more = io::count(got, &room[n..]);
+        if more == 0 {
+            return Input::Bytes(n);
+        }
+        n += more;
+    }
+    Input::Bytes(n)
 }
 
-fn show_sheet(text: &[u8]) {
-    let mut edges = [0i32; 2048];
-    let reading = text::read(text, &mut edges);
-    match reading {
-        Reading::Edges(n) => {
-            if n <= 512 {
-                let mut polygons = [0u32; 512];
-                let mut sequences = [0u32; 512];
-                let mut journal = [0i32; 4096];
-                number_edges(&edges, n, &mut polygons, &mut sequences, &mut journal);
-            }
-        }
-        Reading::TooMuch => show_refusal(reading.number(), reading.place()),
-        Reading::Malformed(_) => show_refusal(reading.number(), reading.place()),
+fn complain(words: &[u8]) {
+    io::write_all(STDERR_FILENO, words);
+}
+
+fn write_out(page: &[u8], n: usize)
+    requires { ⌜ n ≤ length (now page) ⌝ }
+{
+    if !io::write_all(STDOUT_FILENO, &page[..n]) {
+        complain(b"outline: standard output cannot be written\n");
     }
+}
+
+// The output of a text at the front of a page that has room for every output.
+fn print_on(page: &mut [u8], text: &[u8]) -> usize
+    requires { ⌜ 8192 ≤ length (now page) ⌝ }
+    ensures { λ n. ⌜ InFront (now (text .entry)) (now (page .entry)) (now (page .exit)) n ⌝ }
+{
+    match printing::print_sheet(text, page) {
+        Printed::Bytes(n) => n,
+        Printed::TooShort => 0,
+    }
+}
+
+// Prints the sheet of the room's first n bytes.
+fn print(room: &[u8], n: usize)
+    requires { ⌜ n ≤ length (now room) ⌝ }
+{
+    let mut page = [0u8; 8192];
+    let printed = print_on(&mut page, &room[..n]);
+    write_out(&page, printed);
 }
 
 // One byte more than a text may have is enough to see that it has too many.
 fn main() {
-    let mut bytes = [0u8; 20481];
-    let n = io::read_full(STDIN_FILENO, &mut bytes);
-    show_sheet(&bytes[..n]);
+    let mut room = [0u8; 20481];
+    match read_all(&mut room) {
+        Input::Bytes(n) => print(&room, n),
+        Input::Failed => complain(b"outline: standard input cannot be read\n"),
+    }
 }

@@ -1,0 +1,2 @@
+-- What reading the standard input answers.
+pub mod Input
