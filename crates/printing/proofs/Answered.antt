@@ -18,7 +18,7 @@ take-replicate zero m v h = refl
 take-replicate (suc n) zero v h = absurd (omega arith)
 take-replicate (suc n) (suc m) v h = ap (λ l. v ∷ l) (take-replicate n m v (omega arith))
 
-module _ {x : Left} {a : Answer} {polygons sequences : List ℕ} {journal rows : List ℤ} (e : leaving a polygons sequences journal rows ≡ x) {l y : List ℕ} {r : ℕ} (n : ℕ) where
+module _ {x : Left Answer} {a : Answer} {polygons sequences : List ℕ} {journal rows : List ℤ} (e : leaving a polygons sequences journal rows ≡ x) {l y : List ℕ} {r : ℕ} (n : ℕ) where
   pub accepted-so : {count peak records : ℕ} → a ≡ Accepted count peak records → length polygons ≡ n → Laid l 0 (accepted count peak records ++ edgeLines polygons sequences (length polygons)) y r → Laid l 0 (outcomeLines n x) y r
   unfolding outcomeLines
   accepted-so q m h = rw (← e, q, ← m) h
@@ -28,7 +28,7 @@ module _ {x : Left} {a : Answer} {polygons sequences : List ℕ} {journal rows :
   refused-so q s t h = rw (← e, q, ← s, ← t) h
 
 module _ {l y : List ℕ} {r : ℕ} where
-  pub edges-so : (x : Left) {m n : ℕ} → m ≡ n → Laid l 0 (outcomeLines m x) y r → Laid l 0 (outcomeLines n x) y r
+  pub edges-so : (x : Left Answer) {m n : ℕ} → m ≡ n → Laid l 0 (outcomeLines m x) y r → Laid l 0 (outcomeLines n x) y r
   edges-so x e h = rw e at h
 
   -- the first numbers of lists of zeros

@@ -18,7 +18,7 @@ use Rattle.sheet.specs.declared.Check.the-variants as check
 use Rattle.sheet.specs.declared.Refusal.{Refusal}
 use Rattle.sheet.specs.declared.Refusal.the-variants.{NotWhole, TooMany, ListsDiffer, JournalShort, PastRange, EqualEnds, TopFalls, Repeated, Uneven, NoRow}
 use Rattle.sheet.specs.Edges.{edgesIn, drawingOf}
-use Rattle.sheet.specs.Answers.{Call, numberOf, placeOf, checked, Ending, finished, noFreeRow, answered}
+use Rattle.sheet.specs.Answers.{Call, numberOf, placeOf, checked, answered}
 use Rattle.sheet.proofs.Outlines.{sequence-small}
 use Rattle.checks.proofs.AnswerSheet.{Row, row, row-1, row-2, row-3, row-4, row-5, row-6, row-7, row-8, row-9, no-row}
 use Rattle.checks.proofs.Passed.{passed}
@@ -27,7 +27,9 @@ use Rattle.text.specs.declared.Reading.{Reading}
 use Rattle.text.specs.declared.Reading.the-variants.{TooMuch, Malformed, Edges}
 use Rattle.text.specs.Lines.{edgeIn}
 use Rattle.text.specs.Texts.{lineOf, readingOf}
-use Rattle.numbering.specs.Outcome.{Lent, callOf, up, endingBy, leaves, outcome}
+use Rattle.steps.specs.declared.End.{End}
+use Rattle.steps.specs.declared.End.the-variants.{Done, NoFreeRow, Overrun}
+use Rattle.numbering.specs.Outcome.{Lent, callOf, up, down, answerBy, leaves, outcome}
 use Rattle.numbering.specs.Promised.{Promised}
 use Rattle.numbering.proofs.Promising.{promised, accepted-call}
 use Rattle.printing.specs.declared.Printed.{Printed}
@@ -102,7 +104,7 @@ module _ (l : Lent) where
   leaves-answer (Refused r) = refl
   leaves-answer (Accepted p k m) = refl
 
-  answer-is : outcome l .answer ≡ answered (checked (callOf l)) (endingBy l (up l .state .end))
+  answer-is : outcome l .answer ≡ answered (checked (callOf l)) (answerBy l (up l .state .end))
   unfolding outcome
   answer-is = leaves-answer _
 
@@ -113,19 +115,23 @@ module _ (l : Lent) where
   unfolding drawingOf
   place-small r q = by (checked (callOf l)) refl
     where
-      ended : (x : Ending) → outcome l .answer ≡ answered check.Passed x → placeOf r ≤ edgesIn (l .list)
-      ended (finished p k m) e = let f : Refused r ≡ Accepted p k m = sym q ∙ e in let z : _≡_ {A = ℕ} 0 1 = cc in absurd (omega arith)
-      ended (noFreeRow d) e =
+      at-edge : (d : ℕ) → outcome l .answer ≡ Refused (NoRow d) → placeOf r ≤ edgesIn (l .list)
+      at-edge d e =
           let f : Refused r ≡ Refused (NoRow d) = sym q ∙ e in
           let g : r ≡ NoRow d = cc in
           omega (arith, ap placeOf g, P .lacks-row d e .1 .is-edge)
 
+      ended : (u : End) → outcome l .answer ≡ answerBy l u → placeOf r ≤ edgesIn (l .list)
+      ended Done e = let f : Refused r ≡ Accepted (down l .polygons) (up l .state .peak) (up l .state .records) = sym q ∙ e in let z : _≡_ {A = ℕ} 0 1 = cc in absurd (omega arith)
+      ended NoFreeRow e = at-edge (up l .edge) e
+      ended Overrun e = at-edge (up l .edge) e
+
       by : (x : Check) → checked (callOf l) ≡ x → placeOf r ≤ edgesIn (l .list)
       by (check.Refused s) e =
-          let f : Refused r ≡ Refused s = sym q ∙ answer-is ∙ ap (λ x. answered x (endingBy l (up l .state .end))) e in
+          let f : Refused r ≡ Refused s = sym q ∙ answer-is ∙ ap (λ x. answered x (answerBy l (up l .state .end))) e in
           let g : r ≡ s = cc in
           omega (arith, ap placeOf g, ap checkPlace e, place-is-edge (row (callOf l)))
-      by check.Passed e = ended (endingBy l (up l .state .end)) (answer-is ∙ ap (λ x. answered x (endingBy l (up l .state .end))) e)
+      by check.Passed e = ended (up l .state .end) (answer-is ∙ ap (λ x. answered x (answerBy l (up l .state .end))) e)
 
   module _ (few : edgesIn (l .list) ≤ 512) (lent : rowsIn (l .rows) ≤ 256) where
     module _ (p k m : ℕ) (q : outcome l .answer ≡ Accepted p k m) where

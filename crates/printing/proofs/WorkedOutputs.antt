@@ -107,6 +107,7 @@ unfolding
     up.move
     up.attach
     up.close
+    up.pickMeeting
     up.meeting
     up.finish
     up.free

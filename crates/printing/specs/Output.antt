@@ -56,7 +56,7 @@ abbrev pub answerLines : ℕ → Answer → List ℕ → List ℕ → List ℕ
 answerLines n (Accepted count peak records) polygons sequences = accepted count peak records ++ edgeLines polygons sequences n
 answerLines n (Refused r) polygons sequences = refused (numberOf r) (placeOf r)
 
-unfoldable pub outcomeLines : ℕ → Left → List ℕ
+unfoldable pub outcomeLines : ℕ → Left Answer → List ℕ
 outcomeLines n x = answerLines n (x .answer) (x .polygons) (x .sequences)
 
 -- 01 Program 5: 256 rows are lent; with them lists of one number an edge and a journal of eight. All of them hold zeros.
