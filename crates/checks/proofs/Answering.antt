@@ -23,6 +23,7 @@ use Rattle.checks.specs.Stages.{andThen, listChecked, lengthsChecked, ed
 use Rattle.checks.specs.Faults.{EndsFit}
 use Rattle.checks.specs.Places.{firstAtFault}
 use Rattle.checks.proofs.EdgeFaults.{none-of}
+use Rattle.sheet.specs.Amounts.{numbersPerEdge, journalNumbersPerEdge, mostEdges}
 
 pub by-stages : (c : Call) → andThen (lengthsChecked c) (andThen (edgesChecked (c .list)) (placesChecked (c .list))) ≡ checked c
 unfolding checked lengthsChecked listChecked edgesChecked placesChecked notWhole tooMany
@@ -56,23 +57,23 @@ module _ (s : List ℤ) (polygons sequences journal : ℕ) (list : listChecked s
   abbrev call : Call
   call = record { list = s; polygons = polygons; sequences = sequences; journal = journal }
 
-  pub on-polygons : (polygons ≡ length s / 4 → ⊥) → Refused ListsDiffer ≡ lengthsChecked call
+  pub on-polygons : (polygons ≡ length s / numbersPerEdge → ⊥) → Refused ListsDiffer ≡ lengthsChecked call
   unfolding lengthsChecked listsDiffer edgesIn
-  on-polygons h = rw (list, ne-eqb polygons (length s / 4) h)
+  on-polygons h = rw (list, ne-eqb polygons (length s / numbersPerEdge) h)
 
-  module _ (one-each : polygons ≡ length s / 4) where
-    pub on-sequences : (sequences ≡ length s / 4 → ⊥) → Refused ListsDiffer ≡ lengthsChecked call
+  module _ (one-each : polygons ≡ length s / numbersPerEdge) where
+    pub on-sequences : (sequences ≡ length s / numbersPerEdge → ⊥) → Refused ListsDiffer ≡ lengthsChecked call
     unfolding lengthsChecked listsDiffer edgesIn
-    on-sequences h = rw (list, eq-eqb polygons (length s / 4) one-each, ne-eqb sequences (length s / 4) h)
+    on-sequences h = rw (list, eq-eqb polygons (length s / numbersPerEdge) one-each, ne-eqb sequences (length s / numbersPerEdge) h)
 
-    module _ (one-too : sequences ≡ length s / 4) where
-      pub on-journal : journal < 8 * (length s / 4) → Refused JournalShort ≡ lengthsChecked call
+    module _ (one-too : sequences ≡ length s / numbersPerEdge) where
+      pub on-journal : journal < journalNumbersPerEdge * (length s / numbersPerEdge) → Refused JournalShort ≡ lengthsChecked call
       unfolding lengthsChecked listsDiffer journalShort edgesIn
-      on-journal h = rw (list, eq-eqb polygons (length s / 4) one-each, eq-eqb sequences (length s / 4) one-too, lt-ltb journal (8 * (length s / 4)) h)
+      on-journal h = rw (list, eq-eqb polygons (length s / numbersPerEdge) one-each, eq-eqb sequences (length s / numbersPerEdge) one-too, lt-ltb journal (journalNumbersPerEdge * (length s / numbersPerEdge)) h)
 
-      pub on-lengths : 8 * (length s / 4) ≤ journal → Passed ≡ lengthsChecked call
+      pub on-lengths : journalNumbersPerEdge * (length s / numbersPerEdge) ≤ journal → Passed ≡ lengthsChecked call
       unfolding lengthsChecked listsDiffer journalShort edgesIn
-      on-lengths h = rw (list, eq-eqb polygons (length s / 4) one-each, eq-eqb sequences (length s / 4) one-too, le-ltb journal (8 * (length s / 4)) h)
+      on-lengths h = rw (list, eq-eqb polygons (length s / numbersPerEdge) one-each, eq-eqb sequences (length s / numbersPerEdge) one-too, le-ltb journal (journalNumbersPerEdge * (length s / numbersPerEdge)) h)
 
 -- 8 and 9, by the least edges found
 module _ (s : List ℤ) {f : AtFault} (found : f ≡ firstAtFault s) where
@@ -106,17 +107,17 @@ stage-passed : (a next : Check) → andThen a next ≡ Passed → (a ≡ Passed)
 stage-passed Passed next h = (refl, h)
 stage-passed (Refused r) next h = let z : _≡_ {A = ℕ} 0 1 = cc in absurd (omega arith)
 
-pub few-edges : (c : Call) → lengthsChecked c ≡ Passed → edgesIn (c .list) ≤ 4096
+pub few-edges : (c : Call) → lengthsChecked c ≡ Passed → edgesIn (c .list) ≤ mostEdges
 unfolding lengthsChecked listChecked
-few-edges c h = ltb-false _ _ (if-passed (ltb 4096 (edgesIn (c .list))) TooMany Passed (if-passed (not (eqb (length (c .list) % 4) 0)) NotWhole _ (stage-passed (listChecked (c .list)) _ h .0) .1) .0)
+few-edges c h = ltb-false _ _ (if-passed (ltb mostEdges (edgesIn (c .list))) TooMany Passed (if-passed (not (eqb (length (c .list) % numbersPerEdge) 0)) NotWhole _ (stage-passed (listChecked (c .list)) _ h .0) .1) .0)
 
 no-fault : (s : List ℤ) → edgesChecked s ≡ Passed → NoneBelow (edgeFault s) (edgesIn s)
 unfolding edgesChecked
 no-fault s h k l = let m : edgesIn s ≤ first (edgeFault s) (edgesIn s) = ltb-false _ _ (if-passed (ltb (first (edgeFault s) (edgesIn s)) (edgesIn s)) (faultOf s (first (edgeFault s) (edgesIn s))) Passed h .0) in first-least (edgeFault s) (edgesIn s) k (omega arith)
 
-pub ends-fit : (s : List ℤ) → edgesIn s ≤ 4096 → NoneBelow (edgeFault s) (edgesIn s) → EndsFit s (edgesIn s)
+pub ends-fit : (s : List ℤ) → edgesIn s ≤ mostEdges → NoneBelow (edgeFault s) (edgesIn s) → EndsFit s (edgesIn s)
 unfolding edgesIn
 ends-fit s few none = record { all = refl; few = few; long = omega arith; in-range = λ e l. none-of s e (none e l) .0; two-ends = λ e l. none-of s e (none e l) .1 }
 
-pub checked-fit : (s : List ℤ) → edgesIn s ≤ 4096 → edgesChecked s ≡ Passed → EndsFit s (edgesIn s)
+pub checked-fit : (s : List ℤ) → edgesIn s ≤ mostEdges → edgesChecked s ≡ Passed → EndsFit s (edgesIn s)
 checked-fit s few h = ends-fit s few (no-fault s h)

@@ -29,13 +29,14 @@ use Rattle.checks.specs.Faults.{EndsFit}
 use Rattle.checks.proofs.EdgeFaults.{top-in-range, none-of, tail-in, head-in, ends-differ}
 use Rattle.checks.proofs.Answering.{ends-fit}
 use Rattle.checks.proofs.AnswerSheet.{LengthsFit, Row, no-row, exactly}
+use Rattle.sheet.specs.Amounts.{numbersPerEdge, journalNumbersPerEdge, mostEdges}
 
 pub record AllPassed (c : Call) : Type 0 where
-  pub whole : length (c .list) ≡ 4 * edgesIn (c .list)
-  pub few : edgesIn (c .list) ≤ 4096
+  pub whole : length (c .list) ≡ numbersPerEdge * edgesIn (c .list)
+  pub few : edgesIn (c .list) ≤ mostEdges
   pub polygons : c .polygons ≡ edgesIn (c .list)
   pub sequences : c .sequences ≡ edgesIn (c .list)
-  pub journal : 8 * edgesIn (c .list) ≤ c .journal
+  pub journal : journalNumbersPerEdge * edgesIn (c .list) ≤ c .journal
   pub tails-in-range : (e : ℕ) → e < edgesIn (c .list) → inRange (edgeAt (c .list) e .tail) ≡ true
   pub heads-in-range : (e : ℕ) → e < edgesIn (c .list) → inRange (edgeAt (c .list) e .head) ≡ true
   pub sheet : Checked (drawingOf (c .list))
@@ -98,7 +99,7 @@ module _ {s : List ℤ} (E : EndsFit s (edgesIn s)) (none : NoneBelow (edgeFault
   unfolding drawingOf
   order e l = rw add-one (omega (arith, top-height e (omega arith), top-height (suc e) (omega arith), rises e (omega arith)))
 
-pub sheet-checked : (s : List ℤ) → edgesIn s ≤ 4096 → NoneBelow (edgeFault s) (edgesIn s) → NoneBelow (repeats (drawingOf s)) (edgesIn s) → NoneBelow (uneven (drawingOf s)) (edgesIn s) → Checked (drawingOf s)
+pub sheet-checked : (s : List ℤ) → edgesIn s ≤ mostEdges → NoneBelow (edgeFault s) (edgesIn s) → NoneBelow (repeats (drawingOf s)) (edgesIn s) → NoneBelow (uneven (drawingOf s)) (edgesIn s) → Checked (drawingOf s)
 unfolding drawingOf
 sheet-checked s few none once level = record {
   flat = λ p q f h. h;
@@ -111,11 +112,11 @@ sheet-checked s few none once level = record {
 
 -- the numbers that 1 to 4 compare
 module _ (c : Call) (l : LengthsFit c) where
-  whole : length (c .list) ≡ 4 * edgesIn (c .list)
+  whole : length (c .list) ≡ numbersPerEdge * edgesIn (c .list)
   unfolding notWhole edgesIn
-  whole = let h : length (c .list) % 4 ≡ 0 = eqb-true _ _ (not-false _ (l .whole)) in omega arith
+  whole = let h : length (c .list) % numbersPerEdge ≡ 0 = eqb-true _ _ (not-false _ (l .whole)) in omega arith
 
-  few : edgesIn (c .list) ≤ 4096
+  few : edgesIn (c .list) ≤ mostEdges
   unfolding tooMany
   few = ltb-false _ _ (l .few)
 
@@ -123,7 +124,7 @@ module _ (c : Call) (l : LengthsFit c) where
   unfolding listsDiffer
   one-each = let w = both-true _ _ (not-false _ (l .one-each)) in (eqb-true _ _ (w .0), eqb-true _ _ (w .1))
 
-  long : 8 * edgesIn (c .list) ≤ c .journal
+  long : journalNumbersPerEdge * edgesIn (c .list) ≤ c .journal
   unfolding journalShort
   long = ltb-false _ _ (l .long)
 

@@ -24,6 +24,7 @@ use Rattle.sorting.proofs.Standing.{Different, old-stands, new-stood, strictly-
 use Rattle.checks.specs.Faults.{EndsFit}
 use Rattle.checks.specs.Ends.{wayNumber, fromNumber, placeNumber, endWord, wordOf, wayIf, topWay, topWord, bottomWord, Packed, IsEnd, Ordered}
 use Rattle.checks.proofs.EdgeFaults.{tail-in, head-in, ends-differ}
+use Rattle.sheet.specs.Amounts.{mostEdges}
 
 pub from-small : (f : From) → fromNumber f ≤ 1
 from-small below = omega arith
@@ -117,7 +118,7 @@ two-ways arriving h = omega arith
 two-ways leaving h = omega arith
 
 -- the sort of the packed words
-module _ {s : List ℤ} {old new : List ℕ} {n : ℕ} (few : n ≤ 4096) (P : Packed s old n n) (S : Sorted old new (2 * n)) where
+module _ {s : List ℤ} {old new : List ℕ} {n : ℕ} (few : n ≤ mostEdges) (P : Packed s old n n) (S : Sorted old new (2 * n)) where
   -- an end that is packed: a top, or a bottom behind all the tops
   data Spot (i : ℕ) : Type 0 where
     top : i < n → getD old i 0 ≡ topWord s i → Spot i

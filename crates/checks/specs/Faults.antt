@@ -11,6 +11,7 @@ use Rattle.sheet.specs.declared.Refusal.the-variants.{PastRange, EqualEnds, Top
 use Rattle.sheet.specs.Points.{inRange, isSame, isBelow, topOf}
 use Rattle.sheet.specs.Edges.{edgeAt, edgesIn}
 use Rattle.sheet.specs.Answers.{pastRange, equalEnds}
+use Rattle.sheet.specs.Amounts.{numbersPerEdge, mostEdges}
 
 unfoldable pub endPastRange : Edge → Bool
 endPastRange e = not (inRange (e .tail) && inRange (e .head))
@@ -39,7 +40,7 @@ firstRefusal past equal e = cond past (PastRange e) (cond equal (EqualEnds e) (T
 -- A list of n edges that passes 2, 5 and 6: its ends fit into words, and each edge has two. Whether the tops fall is not asked.
 pub record EndsFit (s : List ℤ) (n : ℕ) : Type 0 where
   pub all : n ≡ edgesIn s
-  pub few : n ≤ 4096
-  pub long : 4 * n ≤ length s
+  pub few : n ≤ mostEdges
+  pub long : numbersPerEdge * n ≤ length s
   pub in-range : (e : ℕ) → e < n → pastRange s e ≡ false
   pub two-ends : (e : ℕ) → e < n → equalEnds s e ≡ false

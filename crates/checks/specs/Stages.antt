@@ -11,6 +11,7 @@ use Rattle.sheet.specs.declared.Check.{Check}
 use Rattle.sheet.specs.declared.Check.the-variants.{Passed, Refused}
 use Rattle.sheet.specs.Edges.{edgesIn, drawingOf}
 use Rattle.sheet.specs.Answers.{Call, listsDiffer, journalShort, edgeFault, faultOf, repeats, uneven, refuseIf, refuseFirst}
+use Rattle.sheet.specs.Amounts.{numbersPerEdge, mostEdges}
 
 -- what a stage answers, and where it passes what the next one does
 abbrev pub andThen : Check → Check → Check
@@ -19,7 +20,7 @@ andThen (Refused r) next = Refused r
 
 -- 1 and 2, which ask about the list alone
 unfoldable pub listChecked : List ℤ → Check
-listChecked s = refuseIf (not (eqb (length s % 4) 0)) NotWhole (refuseIf (ltb 4096 (edgesIn s)) TooMany Passed)
+listChecked s = refuseIf (not (eqb (length s % numbersPerEdge) 0)) NotWhole (refuseIf (ltb mostEdges (edgesIn s)) TooMany Passed)
 
 -- 1 to 4
 unfoldable pub lengthsChecked : Call → Check

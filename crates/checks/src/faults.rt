@@ -11,6 +11,7 @@ ghost use Rattle.sheet.specs.Edges.{edgesIn};
 ghost use Rattle.sheet.specs.Answers.{edgeFault, faultOf};
 ghost use Rattle.checks.specs.Faults.{endPastRange, endsEqual, topBelow, beforeFirst, faultAfter, firstRefusal};
 ghost use Rattle.checks.specs.Stages.{edgesChecked};
+ghost use Rattle.sheet.specs.Amounts.{numbersPerEdge, mostEdges};
 
 // 5: an end is out of the range.
 pub fn past_range(edge: Edge) -> bool
@@ -71,7 +72,7 @@ fn before_first() -> Edge
 
 // The first of n edges with 5, 6 or 7, n where there is none.
 fn first_fault(edges: &[i32], n: usize) -> usize
-    requires { ⌜ 4 * n ≤ length (now edges) ⌝ }
+    requires { ⌜ numbersPerEdge * n ≤ length (now edges) ⌝ }
     ensures { λ r. ⌜ r ≡ first (edgeFault (now (edges .entry))) n ⌝ }
 {
     let mut before = before_first();
@@ -102,7 +103,7 @@ fn first_refusal(past: bool, equal: bool, place: u32) -> Refusal
 
 // Which of the three an edge has that has one.
 fn fault_of(edges: &[i32], e: usize) -> Refusal
-    requires { ⌜ (4 * e + 3 < length (now edges)) × (e < 4096) ⌝ }
+    requires { ⌜ (numbersPerEdge * e + 3 < length (now edges)) × (e < 4096) ⌝ }
     ensures { λ r. ⌜ r ≡ faultOf (now (edges .entry)) e ⌝ }
 {
     let edge = Edge::at(edges, e);
@@ -111,7 +112,7 @@ fn fault_of(edges: &[i32], e: usize) -> Refusal
 
 // 5 to 7 of a list that passes 2.
 pub fn check(edges: &[i32]) -> Check
-    requires { ⌜ edgesIn (now edges) ≤ 4096 ⌝ }
+    requires { ⌜ edgesIn (now edges) ≤ mostEdges ⌝ }
     ensures { λ r. ⌜ r ≡ edgesChecked (now (edges .entry)) ⌝ }
 {
     let n = edges.len() / Edge::NUMBERS;

@@ -12,6 +12,7 @@ use Rattle.sheet.specs.Answers.{numberOf, placeOf}
 use Rattle.numbering.specs.Outcome.{Left, lent, leaving, outcome}
 use Rattle.printing.specs.Output.{accepted, refused, edgeLines, outcomeLines, lentFor}
 use Rattle.printing.specs.Laid.{Laid}
+use Rattle.sheet.specs.Amounts.{journalNumbersPerEdge}
 
 take-replicate : {A : Type 0} (n m : ℕ) (v : A) → n ≤ m → take n (replicate m v) ≡ replicate n v
 take-replicate zero m v h = refl
@@ -32,12 +33,12 @@ module _ {l y : List ℕ} {r : ℕ} where
   edges-so x e h = rw e at h
 
   -- the first numbers of lists of zeros
-  pub zeros-so : (n : ℕ) (list : List ℤ) → n ≤ 512 → Laid l 0 (outcomeLines n (outcome (lent list (take n (replicate 512 0)) (take n (replicate 512 0)) (take (8 * n) (replicate 4096 (pos 0))) (replicate 2048 (pos 0))))) y r → Laid l 0 (outcomeLines n (outcome (lentFor n list))) y r
+  pub zeros-so : (n : ℕ) (list : List ℤ) → n ≤ 512 → Laid l 0 (outcomeLines n (outcome (lent list (take n (replicate 512 0)) (take n (replicate 512 0)) (take (journalNumbersPerEdge * n) (replicate 4096 (pos 0))) (replicate 2048 (pos 0))))) y r → Laid l 0 (outcomeLines n (outcome (lentFor n list))) y r
   zeros-so n list h a =
       subst
-      (λ (lists : List ℕ). Laid l 0 (outcomeLines n (outcome (lent list lists lists (replicate (8 * n) (pos 0)) (replicate 2048 (pos 0))))) y r)
+      (λ (lists : List ℕ). Laid l 0 (outcomeLines n (outcome (lent list lists lists (replicate (journalNumbersPerEdge * n) (pos 0)) (replicate 2048 (pos 0))))) y r)
       (take-replicate n 512 0 h)
       (subst
       (λ (journal : List ℤ). Laid l 0 (outcomeLines n (outcome (lent list (take n (replicate 512 0)) (take n (replicate 512 0)) journal (replicate 2048 (pos 0))))) y r)
-      (take-replicate (8 * n) 4096 (pos 0) (omega arith))
+      (take-replicate (journalNumbersPerEdge * n) 4096 (pos 0) (omega arith))
       a)

@@ -17,6 +17,7 @@ use Rattle.text.specs.Lines.{edgeIn}
 use Rattle.text.specs.Texts.{lineCount, lineOf, firstMalformed, tooMuch, answerOf, readingOf, linesRead, Filled}
 use Rattle.text.proofs.EnoughRoom.{few-lines, enough-room}
 use Rattle.printing.specs.Output.{fourNumbers, edgesRead}
+use Rattle.sheet.specs.Amounts.{numbersPerEdge}
 
 four-in-place : (s : List ℤ) (k : ℕ) → k + 3 < length s → take 4 (drop k s) ≡ getD s k (pos 0) ∷ getD s (k + 1) (pos 0) ∷ getD s (k + 2) (pos 0) ∷ getD s (k + 3) (pos 0) ∷ []
 four-in-place s k h =
@@ -33,11 +34,11 @@ four-in-place s k h =
       drop-cons s (suc (suc (suc k))) (pos 0) (omega arith),
     )
 
-edge-in-place : (s : List ℤ) (e : ℕ) → 4 * e + 3 < length s → take 4 (drop (4 * e) s) ≡ fourNumbers (edgeAt s e)
+edge-in-place : (s : List ℤ) (e : ℕ) → numbersPerEdge * e + 3 < length s → take 4 (drop (numbersPerEdge * e) s) ≡ fourNumbers (edgeAt s e)
 unfolding edgeAt
-edge-in-place s e h = four-in-place s (4 * e) h
+edge-in-place s e h = four-in-place s (numbersPerEdge * e) h
 
-pub edges-are-read : (s : List ℕ) (n : ℕ) {before after : List ℤ} → Filled s n before after → 4 * n ≤ length after → take (4 * n) after ≡ edgesRead s n
+pub edges-are-read : (s : List ℕ) (n : ℕ) {before after : List ℤ} → Filled s n before after → numbersPerEdge * n ≤ length after → take (numbersPerEdge * n) after ≡ edgesRead s n
 edges-are-read s n {before} {after} f h = listed-is 4 (λ i. fourNumbers (edgeIn (lineOf s i))) after n (λ i l. edge-in-place after i (omega arith) ∙ ap fourNumbers (f .edges i l))
 
 -- where a text is read, its lines are all read, and there are up to 512

@@ -38,6 +38,7 @@ use Rattle.printing.specs.Output.{decimal, accepted, refused, edgeLine, 
 use Rattle.printing.specs.Laid.{Page}
 use Rattle.printing.proofs.Digits.{few-digits}
 use Rattle.printing.proofs.EdgesRead.{all-read, malformed-at}
+use Rattle.sheet.specs.Amounts.{numbersPerEdge}
 
 -- a number of up to four digits
 abbrev Small : ℕ → Type 0
@@ -167,7 +168,7 @@ module _ (l : Lent) where
     outcome-short n e = rw (← e) (lines-short (outcome l .answer) refl)
 
 -- the edges of n lines
-four-each : (f : ℕ → List ℤ) → ((i : ℕ) → length (f i) ≡ 4) → (n : ℕ) → length (listed f n) ≡ 4 * n
+four-each : (f : ℕ → List ℤ) → ((i : ℕ) → length (f i) ≡ 4) → (n : ℕ) → length (listed f n) ≡ numbersPerEdge * n
 unfolding listed
 four-each f h zero = refl
 four-each f h (suc n) = length-append (listed f n) (f n) ∙ omega (arith, h n, four-each f h n)

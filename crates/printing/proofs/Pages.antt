@@ -19,6 +19,7 @@ use Rattle.printing.specs.Output.{refused, outcomeLines, lentFor, readin
 use Rattle.printing.specs.Laid.{Laid, Page, InFront}
 use Rattle.printing.proofs.Laying.{laid-in-front, laid-length}
 use Rattle.printing.proofs.EdgesRead.{all-read, edges-are-read}
+use Rattle.sheet.specs.Amounts.{numbersPerEdge}
 
 module _ {s l y : List ℕ} {n : ℕ} (a : Laid l 0 (printed s) y n) where
   pub page-too-short : length y < n → Page s l y TooShort
@@ -41,7 +42,7 @@ module _ (s : List ℕ) {before after : List ℤ} {reading : Reading} (room : le
   answer : readingOf s 2048 ≡ reading
   answer = rw room at (sym (o .answer))
 
-  pub few-edges : {n : ℕ} → reading ≡ Edges n → (n ≤ 512) × (4 * n ≤ length after)
+  pub few-edges : {n : ℕ} → reading ≡ Edges n → (n ≤ 512) × (numbersPerEdge * n ≤ length after)
   few-edges {n} e =
       let few : n ≤ 512 = all-read s n (answer ∙ e) .few in
       (few, omega (arith, o .filled .same-length))
@@ -51,7 +52,7 @@ module _ (s : List ℕ) {before after : List ℤ} {reading : Reading} (room : le
     unfolding printed
     so-printed e a = rw (answer ∙ e) a
 
-    pub edges-printed : (n : ℕ) → reading ≡ Edges n → Laid l 0 (outcomeLines n (outcome (lentFor n (take (4 * n) after)))) y k → Laid l 0 (printed s) y k
+    pub edges-printed : (n : ℕ) → reading ≡ Edges n → Laid l 0 (outcomeLines n (outcome (lentFor n (take (numbersPerEdge * n) after)))) y k → Laid l 0 (printed s) y k
     edges-printed n e a =
         let filled : Filled s n before after = rw (ap (linesRead s) room ∙ all-read s n (answer ∙ e) .all) at (o .filled) in
         so-printed e (rw (edges-are-read s n filled (few-edges e .1)) at a)

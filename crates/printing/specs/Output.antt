@@ -19,6 +19,8 @@ use Rattle.text.specs.Lines.{space, newline, edgeIn}
 use Rattle.text.specs.Texts.{lineOf, readingOf}
 use Rattle.text.specs.Written as written
 use Rattle.numbering.specs.Outcome.{Lent, Left, lent, outcome}
+use Rattle.sheet.specs.Amounts.{numbersPerEdge, journalNumbersPerEdge}
+use Rattle.steps.specs.Swept.{numbersPerRow}
 
 -- the bytes of an ASCII text
 abbrev pub bytes : String → List ℕ
@@ -61,7 +63,7 @@ outcomeLines n x = answerLines n (x .answer) (x .polygons) (x .sequences)
 
 -- 01 Program 5: 256 rows are lent; with them lists of one number an edge and a journal of eight. All of them hold zeros.
 abbrev pub lentFor : ℕ → List ℤ → Lent
-lentFor n list = lent list (replicate n 0) (replicate n 0) (replicate (8 * n) (pos 0)) (replicate (8 * 256) (pos 0))
+lentFor n list = lent list (replicate n 0) (replicate n 0) (replicate (journalNumbersPerEdge * n) (pos 0)) (replicate (numbersPerRow * 256) (pos 0))
 
 -- an edge's four numbers in their order
 abbrev pub fourNumbers : Edge → List ℤ
@@ -79,4 +81,4 @@ readingLines s (Edges n) = outcomeLines n (outcome (lentFor n (edgesRead s n)))
 
 -- the room is four numbers for each of the 512 lines that a text may have
 unfoldable pub printed : List ℕ → List ℕ
-printed s = readingLines s (readingOf s (4 * 512))
+printed s = readingLines s (readingOf s (numbersPerEdge * 512))

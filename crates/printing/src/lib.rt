@@ -14,6 +14,7 @@ ghost use lib.ListN.{length, take, replicate};
 ghost use Rattle.numbering.specs.Outcome.{lent, outcome};
 ghost use Rattle.printing.specs.Output.{outcomeLines, lentFor, printed};
 ghost use Rattle.printing.specs.Laid.{Laid, Page};
+ghost use Rattle.sheet.specs.Amounts.{numbersPerEdge, journalNumbersPerEdge};
 
 // How many bytes were printed, or that the slice lent for them is too short.
 pub enum Printed {
@@ -56,8 +57,8 @@ fn put_sheet(text: &[u8], out: &mut [u8]) -> usize
 
 // The first n edges of a room, with lists and a journal of zeros.
 fn put_edges(edges: &[i32], n: usize, out: &mut [u8]) -> usize
-    requires { ⌜ (n ≤ 512) × (4 * n ≤ length (now edges)) ⌝ }
-    ensures { λ r. ⌜ Laid (now (out .entry)) 0 (outcomeLines n (outcome (lentFor n (take (4 * n) (now (edges .entry)))))) (now (out .exit)) r ⌝ }
+    requires { ⌜ (n ≤ 512) × (numbersPerEdge * n ≤ length (now edges)) ⌝ }
+    ensures { λ r. ⌜ Laid (now (out .entry)) 0 (outcomeLines n (outcome (lentFor n (take (numbersPerEdge * n) (now (edges .entry)))))) (now (out .exit)) r ⌝ }
 {
     let mut polygons = [0u32; LIST];
     let mut sequences = [0u32; LIST];
@@ -74,8 +75,8 @@ fn put_parts(
     journal: &mut [i32],
     out: &mut [u8],
 ) -> usize
-    requires { ⌜ (n ≤ 512) × (4 * n ≤ length (now edges)) × (n ≤ length (now polygons)) × (n ≤ length (now sequences)) × (8 * n ≤ length (now journal)) ⌝ }
-    ensures { λ r. ⌜ Laid (now (out .entry)) 0 (outcomeLines n (outcome (lent (take (4 * n) (now (edges .entry))) (take n (now (polygons .entry))) (take n (now (sequences .entry))) (take (8 * n) (now (journal .entry))) (replicate 2048 (pos 0))))) (now (out .exit)) r ⌝ }
+    requires { ⌜ (n ≤ 512) × (numbersPerEdge * n ≤ length (now edges)) × (n ≤ length (now polygons)) × (n ≤ length (now sequences)) × (journalNumbersPerEdge * n ≤ length (now journal)) ⌝ }
+    ensures { λ r. ⌜ Laid (now (out .entry)) 0 (outcomeLines n (outcome (lent (take (numbersPerEdge * n) (now (edges .entry))) (take n (now (polygons .entry))) (take n (now (sequences .entry))) (take (journalNumbersPerEdge * n) (now (journal .entry))) (replicate 2048 (pos 0))))) (now (out .exit)) r ⌝ }
 {
     let numbers = Edge::NUMBERS * n;
     let records = 8 * n;

@@ -10,6 +10,7 @@ use lib.ListN.{length}
 use borrow.Author.Tests.{ltb-false, le-ltb}
 use Rattle.laws.proofs.Deciding.{true-or-false, neither-true}
 use Rattle.text.specs.Texts.{lineCount, pastLimits, tooMuch}
+use Rattle.sheet.specs.Amounts.{numbersPerEdge}
 
 pub few-lines : (s : List ℕ) → pastLimits s ≡ false → lineCount s ≤ 512
 unfolding pastLimits
@@ -19,5 +20,5 @@ pub enough-room : (s : List ℕ) (room : ℕ) → 2048 ≤ room → tooMuch s ro
 unfolding tooMuch
 enough-room s room h = ⊎-elim
     (λ p. rw p)
-    (λ p. rw (p, le-ltb room (4 * lineCount s) (omega (arith, few-lines s p))))
+    (λ p. rw (p, le-ltb room (numbersPerEdge * lineCount s) (omega (arith, few-lines s p))))
     (true-or-false (pastLimits s))

@@ -11,6 +11,7 @@ use Rattle.text.specs.declared.Reading.{Reading}
 use Rattle.text.specs.declared.Reading.the-variants.{TooMuch}
 use Rattle.text.specs.Texts.{lineCount, pastLimits, tooMuch, readingOf, linesRead, LinesTried, Outcome}
 use Rattle.text.proofs.Rooms.{nothing-filled}
+use Rattle.sheet.specs.Amounts.{numbersPerEdge}
 
 module _ (s : List ℕ) where
   nothing-read : (l : List ℤ) → tooMuch s (length l) ≡ true → Outcome s l l TooMuch
@@ -31,14 +32,14 @@ module _ (s : List ℕ) where
       unfolding pastLimits
       within = rw (le-ltb 20480 (length s) b, le-ltb 512 (lineCount s) (omega arith))
 
-      pub little-room : (l : List ℤ) → length l < 4 * lines → Outcome s l l TooMuch
+      pub little-room : (l : List ℤ) → length l < numbersPerEdge * lines → Outcome s l l TooMuch
       unfolding tooMuch
-      little-room l h = nothing-read l (rw (within, lt-ltb (length l) (4 * lineCount s) (omega arith)))
+      little-room l h = nothing-read l (rw (within, lt-ltb (length l) (numbersPerEdge * lineCount s) (omega arith)))
 
-      fits : (room : ℕ) → 4 * lines ≤ room → tooMuch s room ≡ false
+      fits : (room : ℕ) → numbersPerEdge * lines ≤ room → tooMuch s room ≡ false
       unfolding tooMuch
-      fits room h = rw (within, le-ltb room (4 * lineCount s) (omega arith))
+      fits room h = rw (within, le-ltb room (numbersPerEdge * lineCount s) (omega arith))
 
-      pub lines-read : {before after : List ℤ} {r : Reading} → 4 * lines ≤ length before → LinesTried s lines before after r → Outcome s before after r
+      pub lines-read : {before after : List ℤ} {r : Reading} → numbersPerEdge * lines ≤ length before → LinesTried s lines before after r → Outcome s before after r
       unfolding readingOf linesRead
       lines-read {before} h t = record { answer = rw (fits (length before) h, ← n) (t .answer); filled = rw (fits (length before) h, ← n) (t .filled) }

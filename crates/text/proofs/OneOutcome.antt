@@ -21,11 +21,12 @@ use Rattle.text.specs.declared.Line.the-variants as line
 use Rattle.text.specs.declared.Reading.{Reading}
 use Rattle.text.specs.Said.{Said, read, refused, numberSaid, stepSaid, lineSaid}
 use Rattle.text.specs.Texts.{linesRead, Filled, Outcome}
+use Rattle.sheet.specs.Amounts.{numbersPerEdge}
 
-numbers-same : (l m : List ℤ) (n j : ℕ) → edgeAt l n ≡ edgeAt m n → j < 4 → getD l (4 * n + j) (pos 0) ≡ getD m (4 * n + j) (pos 0)
+numbers-same : (l m : List ℤ) (n j : ℕ) → edgeAt l n ≡ edgeAt m n → j < 4 → getD l (numbersPerEdge * n + j) (pos 0) ≡ getD m (numbersPerEdge * n + j) (pos 0)
 unfolding edgeAt
 numbers-same l m n zero e h =
-    let q : 4 * n + 0 ≡ 4 * n = omega arith in
+    let q : numbersPerEdge * n + 0 ≡ numbersPerEdge * n = omega arith in
     rw q (ap (λ (d : Edge). d .tail .x) e)
 numbers-same l m n (suc zero) e h = ap (λ (d : Edge). d .tail .y) e
 numbers-same l m n (suc (suc zero)) e h = ap (λ (d : Edge). d .head .x) e
@@ -35,11 +36,11 @@ numbers-same l m n (suc (suc (suc (suc j)))) e h = absurd (omega arith)
 filled-same : (s : List ℕ) (m : ℕ) {before a b : List ℤ} → Filled s m before a → Filled s m before b → (k : ℕ) → getD a k (pos 0) ≡ getD b k (pos 0)
 filled-same s m {before} {a} {b} f g k = ⊎-elim
     (λ l.
-    let q : 4 * (k / 4) + k % 4 ≡ k = omega arith in
-    let e = f .edges (k / 4) (omega arith) ∙ sym (g .edges (k / 4) (omega arith)) in
-    rw q at (numbers-same a b (k / 4) (k % 4) e (omega arith)))
+    let q : numbersPerEdge * (k / numbersPerEdge) + k % numbersPerEdge ≡ k = omega arith in
+    let e = f .edges (k / numbersPerEdge) (omega arith) ∙ sym (g .edges (k / numbersPerEdge) (omega arith)) in
+    rw q at (numbers-same a b (k / numbersPerEdge) (k % numbersPerEdge) e (omega arith)))
     (λ l. f .rest k l ∙ sym (g .rest k l))
-    (lt-or-le k (4 * m))
+    (lt-or-le k (numbersPerEdge * m))
 
 pub one-outcome : (s : List ℕ) {before a b : List ℤ} {p q : Reading} → Outcome s before a p → Outcome s before b q → (p ≡ q) × (a ≡ b)
 one-outcome s {before} {a} {b} x y = (

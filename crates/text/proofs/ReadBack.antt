@@ -22,6 +22,7 @@ use Rattle.text.proofs.ToTheEnd.{lines-are}
 use Rattle.text.proofs.Spelled.{Spelled, spelled-left, spelled-right}
 use Rattle.text.proofs.NumeralsRead.{number-read}
 use Rattle.text.proofs.Decimals.{decimal-writes}
+use Rattle.sheet.specs.Amounts.{numbersPerEdge}
 
 -- a number and the byte after it
 module _ (s : List ℕ) (b i : ℕ) (z : ℤ) (d : isDigit b ≡ false) (l : Short z) (h : Spelled s i (withByte z b)) where
@@ -162,15 +163,15 @@ module _ (es : List Edge) (l : AllShort es) where
       let q : 0 + length es ≡ length es = omega arith in
       lines-are (written es) (length es) none-malformed (omega (arith, ap (lineStart (written es)) q, all-read .ends))
 
-  not-too-much : (room : ℕ) → length es ≤ 512 → 4 * length es ≤ room → tooMuch (written es) room ≡ false
+  not-too-much : (room : ℕ) → length es ≤ 512 → numbersPerEdge * length es ≤ room → tooMuch (written es) room ≡ false
   unfolding tooMuch pastLimits
   not-too-much room few fits = rw (
     le-ltb 20480 (length (written es)) (omega (arith, written-length es l)),
     le-ltb 512 (lineCount (written es)) (omega (arith, as-many-lines)),
-    le-ltb room (4 * lineCount (written es)) (omega (arith, as-many-lines)),
+    le-ltb room (numbersPerEdge * lineCount (written es)) (omega (arith, as-many-lines)),
   )
 
-  pub written-read : (room : ℕ) → length es ≤ 512 → 4 * length es ≤ room → readingOf (written es) room ≡ Edges (length es)
+  pub written-read : (room : ℕ) → length es ≤ 512 → numbersPerEdge * length es ≤ room → readingOf (written es) room ≡ Edges (length es)
   unfolding readingOf answerOf firstMalformed
   written-read room few fits =
       let q : length es ≡ firstMalformed (written es) (length es) = found-none _ none-malformed (omega arith) in

@@ -23,6 +23,7 @@ use Rattle.text.specs.Texts.{newlineAt, newlines, unended, lineCount, li
 use Rattle.text.proofs.Bytes.{byte-stands}
 use Rattle.text.proofs.EnoughRoom.{few-lines}
 use Rattle.text.proofs.LineEnds.{Ended, line-is, line-ends}
+use Rattle.sheet.specs.Amounts.{numbersPerEdge}
 
 pub has-edge : (l : Said Edge) → isMalformed l ≡ false → (e : Edge) × (c : ℕ) × (l ≡ read e c)
 unfolding isMalformed
@@ -115,7 +116,7 @@ module _ (s : List ℕ) where
   pub record ReadWhole (size n : ℕ) : Type 0 where
     pub lines : n ≡ lineCount s
     pub few : n ≤ 512
-    pub room : 4 * n ≤ size
+    pub room : numbersPerEdge * n ≤ size
     pub sound : NoneBelow (λ k. isMalformed (lineOf s k)) n
     pub end : lineStart s n ≡ length s
 
@@ -127,7 +128,7 @@ module _ (s : List ℕ) where
       record {
         lines = refl;
         few = few-lines s (v .0);
-        room = ltb-false size (4 * lineCount s) (v .1);
+        room = ltb-false size (numbersPerEdge * lineCount s) (v .1);
         sound = h;
         end = all-lines h;
       }

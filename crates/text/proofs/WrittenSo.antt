@@ -23,6 +23,7 @@ use Rattle.text.proofs.LineEnds.{line-ends}
 use Rattle.text.proofs.ToTheEnd.{has-edge, to-the-end}
 use Rattle.text.proofs.Spelled.{Spelled, spelled-join, spelled-byte}
 use Rattle.text.proofs.NumeralsStand.{number-written}
+use Rattle.sheet.specs.Amounts.{numbersPerEdge}
 
 -- a number that was read, with the byte after it
 record FieldWritten (s : List ℕ) (b i : ℕ) (z : ℤ) (end : ℕ) : Type 0 where
@@ -115,7 +116,7 @@ front-written s zero h = record { as-many = refl; short = λ d k l. absurd (omeg
 front-written s (suc n) h = line-more s n (front-written s n (λ k l. h k (omega arith))) (h n (omega arith))
 
 pub written-so : (s : List ℕ) (room n : ℕ) → readingOf s room ≡ Edges n
-    → (es : List Edge) × (length es ≡ n) × (n ≤ 512) × (4 * n ≤ room) × AllShort es × (written es ≡ s)
+    → (es : List Edge) × (length es ≡ n) × (n ≤ 512) × (numbersPerEdge * n ≤ room) × AllShort es × (written es ≡ s)
 unfolding byteAt
 written-so s room n h =
     let r = to-the-end s room n h in

@@ -15,6 +15,7 @@ use Rattle.text.specs.declared.Reading.the-variants.{TooMuch, Malformed,
 use Rattle.text.specs.Said.{Said, malformed}
 use Rattle.text.specs.Numbers.{byteAt}
 use Rattle.text.specs.Lines.{newline, lineAt, isMalformed, edgeIn}
+use Rattle.sheet.specs.Amounts.{numbersPerEdge}
 
 unfoldable pub newlineAt : List ℕ → ℕ → Bool
 newlineAt s i = eqb (byteAt s i) newline
@@ -51,7 +52,7 @@ pastLimits s = ltb 20480 (length s) || ltb 512 (lineCount s)
 
 -- past a limit, or the room has fewer numbers than four for each line
 unfoldable pub tooMuch : List ℕ → ℕ → Bool
-tooMuch s room = pastLimits s || ltb room (4 * lineCount s)
+tooMuch s room = pastLimits s || ltb room (numbersPerEdge * lineCount s)
 
 -- what so many lines answer, m of them well formed in front of the first malformed one: lines are numbered from 1
 unfoldable pub answerOf : ℕ → ℕ → Reading
@@ -79,13 +80,13 @@ linesRead s room = cond (tooMuch s room) 0 (firstMalformed s (lineCount s))
 -- a list with an edge's four numbers at its place
 abbrev pub placed : List ℤ → ℕ → Edge → List ℤ
 placed l n e =
-    set (set (set (set l (4 * n) (e .tail .x)) (4 * n + 1) (e .tail .y)) (4 * n + 2) (e .head .x)) (4 * n + 3) (e .head .y)
+    set (set (set (set l (numbersPerEdge * n) (e .tail .x)) (numbersPerEdge * n + 1) (e .tail .y)) (numbersPerEdge * n + 2) (e .head .x)) (numbersPerEdge * n + 3) (e .head .y)
 
 -- The room for edges after reading: the edges of the first m lines in their order, then what stood there before.
 pub record Filled (s : List ℕ) (m : ℕ) (before after : List ℤ) : Type 0 where
   pub same-length : length after ≡ length before
   pub edges : (n : ℕ) → n < m → edgeAt after n ≡ edgeIn (lineOf s n)
-  pub rest : (k : ℕ) → 4 * m ≤ k → getD after k (pos 0) ≡ getD before k (pos 0)
+  pub rest : (k : ℕ) → numbersPerEdge * m ≤ k → getD after k (pos 0) ≡ getD before k (pos 0)
 
 -- The answer and the room after so many lines have been tried.
 pub record LinesTried (s : List ℕ) (lines : ℕ) (before after : List ℤ) (r : Reading) : Type 0 where

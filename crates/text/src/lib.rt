@@ -9,6 +9,7 @@ ghost use Rattle.text.specs.Numbers.{byteAt, isDigit, minusAt, digitsAt,
 ghost use Rattle.text.specs.Lines.{pastAt, fieldAt, lineAt};
 ghost use Rattle.text.specs.Texts.{readingNumber, readingPlace, newlines, unended, lineCount, placed, LinesTried, Outcome};
 use sheet::Point;
+ghost use Rattle.sheet.specs.Amounts.{numbersPerEdge};
 
 // A place in the text.
 pub struct Cursor {
@@ -281,7 +282,7 @@ fn line_count(text: &[u8]) -> usize
 
 // An edge at its place in a list.
 fn put(edges: &mut [i32], place: usize, edge: sheet::Edge)
-    requires { ⌜ 4 * place + 3 < length (now edges) ⌝ }
+    requires { ⌜ numbersPerEdge * place + 3 < length (now edges) ⌝ }
     ensures { λ _. ⌜ now (edges .exit) ≡ placed (now (edges .entry)) place edge ⌝ }
 {
     let first = sheet::Edge::NUMBERS * place;
@@ -299,7 +300,7 @@ fn put(edges: &mut [i32], place: usize, edge: sheet::Edge)
 
 // Line by line, to the first that is malformed.
 fn read_lines(text: &[u8], lines: usize, edges: &mut [i32]) -> Reading
-    requires { ⌜ (lines ≤ 512) × (4 * lines ≤ length (now edges)) ⌝ }
+    requires { ⌜ (lines ≤ 512) × (numbersPerEdge * lines ≤ length (now edges)) ⌝ }
     ensures { λ r. ⌜ LinesTried (now (text .entry)) lines (now (edges .entry)) (now (edges .exit)) r ⌝ }
 {
     let mut cursor = Cursor { at: 0 };
