@@ -1,9 +1,9 @@
 -- `checked` by stages: the three of them in a row give its answer. Then each stage's answer where the code has compared the lengths, or has the first
 -- edge of 5 to 7, of 8 and of 9; and what a stage that passes says of the list.
-use mathlib.Core.Path.{_≡_, refl, sym, ap, _∙_}
+use mathlib.Core.Path.{_≡_, refl, ap, _∙_}
 use mathlib.Core.Bool.{Bool, true, false, not}
 use mathlib.Core.List.{List}
-use Prim.Native.Nat.{ℕ, _+_, _*_, _/_, _%_, _≤_, _<_}
+use Prim.Native.Nat.{ℕ, _*_, _/_, _%_, _≤_, _<_}
 use native.Mathlib.Omega.{arith}
 use lib.Dec.{eqb, ltb}
 use lib.IntN.{ℤ}
@@ -107,9 +107,13 @@ stage-passed : (a next : Check) → andThen a next ≡ Passed → (a ≡ Passed)
 stage-passed Passed next h = (refl, h)
 stage-passed (Refused r) next h = let z : _≡_ {A = ℕ} 0 1 = cc in absurd (omega arith)
 
-pub few-edges : (c : Call) → lengthsChecked c ≡ Passed → edgesIn (c .list) ≤ mostEdges
-unfolding lengthsChecked listChecked
-few-edges c h = ltb-false _ _ (if-passed (ltb mostEdges (edgesIn (c .list))) TooMany Passed (if-passed (not (eqb (length (c .list) % numbersPerEdge) 0)) NotWhole _ (stage-passed (listChecked (c .list)) _ h .0) .1) .0)
+pub list-passed : (c : Call) → lengthsChecked c ≡ Passed → listChecked (c .list) ≡ Passed
+unfolding lengthsChecked
+list-passed c h = stage-passed (listChecked (c .list)) _ h .0
+
+pub few-edges : (s : List ℤ) → listChecked s ≡ Passed → edgesIn s ≤ mostEdges
+unfolding listChecked
+few-edges s h = ltb-false _ _ (if-passed (ltb mostEdges (edgesIn s)) TooMany Passed (if-passed (not (eqb (length s % numbersPerEdge) 0)) NotWhole _ h .1) .0)
 
 no-fault : (s : List ℤ) → edgesChecked s ≡ Passed → NoneBelow (edgeFault s) (edgesIn s)
 unfolding edgesChecked
@@ -119,5 +123,5 @@ pub ends-fit : (s : List ℤ) → edgesIn s ≤ mostEdges → NoneBelow (edgeFau
 unfolding edgesIn
 ends-fit s few none = record { all = refl; few = few; long = omega arith; in-range = λ e l. none-of s e (none e l) .0; two-ends = λ e l. none-of s e (none e l) .1 }
 
-pub checked-fit : (s : List ℤ) → edgesIn s ≤ mostEdges → edgesChecked s ≡ Passed → EndsFit s (edgesIn s)
-checked-fit s few h = ends-fit s few (no-fault s h)
+pub checked-fit : (s : List ℤ) → listChecked s ≡ Passed → edgesChecked s ≡ Passed → EndsFit s (edgesIn s)
+checked-fit s few h = ends-fit s (few-edges s few) (no-fault s h)

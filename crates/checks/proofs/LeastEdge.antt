@@ -1,6 +1,6 @@
 -- `Least` in a loop: none tried, one more tried, two stretches of ends put together. Where a number passes a test as an end of it does, the least edge
 -- of all ends is the first number that passes.
-use mathlib.Core.Path.{_≡_, refl, sym, ap, _∙_}
+use mathlib.Core.Path.{_≡_, sym, ap, _∙_}
 use mathlib.Core.Bool.{Bool, true, false, cond}
 use mathlib.Core.Logic.{⊎-elim}
 use Prim.Native.Nat.{ℕ, _+_, _≤_, _<_, min}

@@ -3,7 +3,7 @@ pub mod EdgeFaults
 pub mod LeastEdge
 pub mod Words
 pub mod Visiting
-pub mod Told
+pub mod ByWords
 pub mod Answering
 pub mod AnswerSheet
 pub mod Passed

@@ -14,7 +14,7 @@ use Rattle.laws.specs.Counting.{bit}
 use Rattle.laws.proofs.Deciding.{lt-or-le, not-both}
 use Rattle.sheet.specs.declared.Point.{Point}
 use Rattle.sheet.specs.declared.Edge.{Edge}
-use Rattle.sheet.specs.Points.{inRange, isBelow, isUp, topOf, bottomOf}
+use Rattle.sheet.specs.Points.{isBelow, isUp, topOf, bottomOf}
 use Rattle.sheet.specs.Rank.{rank}
 use Rattle.sheet.specs.Edges.{edgeAt, drawingOf}
 use Rattle.sheet.specs.Kinds.{Way, arriving, leaving, From, below, above, otherWay, endOf, comes}

@@ -2,7 +2,7 @@
 use native.Mathlib.Omega.{arith}
 use borrow.Author.Needs.{needs}
 use Rattle.sheet.specs.Edges.{edgesIn}
-use Rattle.checks.proofs.Told.{walks, found-first}
+use Rattle.checks.proofs.ByWords.{walks, found-first}
 use Rattle.checks.proofs.places.first_at_fault.Statement.{statement}
 use Rattle.checks.proofs.places.first_at_fault.Tie as tie
 

@@ -6,7 +6,6 @@ use borrow.Author.Tests.{eq-eqb, ne-eqb}
 use borrow.Author.Needs.{needs}
 use Rattle.laws.proofs.Counting.{count-le}
 use Rattle.checks.specs.Ends.{arrivesIn}
-use Rattle.checks.specs.Places.{unevenAt}
 use Rattle.checks.proofs.LeastEdge.{least-none, least-same}
 use Rattle.checks.proofs.Visiting.{uneven-is}
 use Rattle.checks.proofs.places.least_uneven.Statement.{statement}

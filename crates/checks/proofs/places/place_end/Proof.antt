@@ -1,5 +1,5 @@
 -- `checks::places::place_end` meets its contract. The loop's invariant: the ends passed have the place of the first.
-use mathlib.Core.Path.{_≡_, sym, _∙_}
+use mathlib.Core.Path.{sym, _∙_}
 use Prim.Native.Nat.{_≤_, _<_, _-_}
 use native.Mathlib.Omega.{arith}
 use borrow.Author.Needs.{needs}

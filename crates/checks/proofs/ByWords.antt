@@ -1,7 +1,7 @@
 -- 8 and 9 by the words of the ends in order. An end has the key of the end before where an earlier edge is of its kind at its place; and at a place
 -- as many ends arrive as edges do. So the least edges that the walk finds are the first edges that the answer sheet asks for.
 use mathlib.Core.Path.{_≡_, refl, sym, ap, _∙_}
-use mathlib.Core.Bool.{Bool, true, false, not, _&&_, _||_}
+use mathlib.Core.Bool.{Bool, true, not, _&&_, _||_}
 use mathlib.Core.List.{List}
 use mathlib.Core.Logic.{⊎-elim}
 use Prim.Native.Nat.{ℕ, _+_, _-_, _*_, _/_, _%_, _≤_, _<_}
