@@ -7,7 +7,7 @@ ghost use mathlib.Core.Path.{_≡_};
 ghost use Rattle.checks.specs.Stages.{listChecked, lengthsChecked};
 
 // The least numbers that the journal has for each edge.
-const JOURNAL_NUMBERS: usize = 8;
+const JOURNAL_NUMBERS: usize = Edge::JOURNAL_NUMBERS;
 
 // 1 and 2.
 pub fn check_list(edges: &[i32]) -> Check

@@ -6,11 +6,12 @@ pub mod lengths;
 pub mod places;
 
 use sheet::Check;
+use sheet::Edge;
 ghost use mathlib.Core.Path.{_≡_};
 ghost use Rattle.sheet.specs.Answers.{checked};
 
 // The most edges that a list holds.
-const MOST_EDGES: usize = 4096;
+const MOST_EDGES: usize = Edge::MOST;
 
 // What the nine checks answer. Only the lengths of the other lists matter here, and nothing is written.
 pub fn check(edges: &[i32], polygons: usize, sequences: usize, journal: usize) -> Check

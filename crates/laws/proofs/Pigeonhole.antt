@@ -63,21 +63,6 @@ module _ (f : ℕ → ℕ) (m : ℕ) (onto : (y : ℕ) → y < m → (x : ℕ) �
           let v = onto y yl in
           ⊎-elim (λ q. (x, xl, n, e ∙ ap f (sym q) ∙ v .2)) (λ q. (v .0, v .1, q, v .2)) (eq-or-ne (v .0) z)
 
-  pub onto-count : (q : ℕ → Bool) → count (λ x. q (f x)) m ≡ count q m
-  onto-count q = omega (arith, at-least, at-most)
-    where
-      hit : Holes (λ y x. f x ≡ y) q (λ x. q (f x)) m m
-      hit y l t = let v = onto y l in (v .0, v .1, ap q (v .2) ∙ t, v .2)
-
-      at-least : count q m ≤ count (λ x. q (f x)) m
-      at-least = pigeon (λ y x. f x ≡ y) (λ i j k a b. sym a ∙ b) q (λ x. q (f x)) m m hit
-
-      once : (i j k : ℕ) → (i < m) × (f i ≡ k) → (j < m) × (f j ≡ k) → i ≡ j
-      once i j k (il, a) (jl, b) = onto-once i j il jl (a ∙ sym b)
-
-      at-most : count (λ x. q (f x)) m ≤ count q m
-      at-most = pigeon (λ x y. (x < m) × (f x ≡ y)) once (λ x. q (f x)) q m m (λ x l t. (f x, onto-below x l, t, (l, refl)))
-
 -- no number below n is hit twice
 module _ (f : ℕ → ℕ) (n : ℕ) (into : (i : ℕ) → i < n → f i < n) (once : (i j : ℕ) → i < n → j < n → f i ≡ f j → i ≡ j) where
   own : (i j k : ℕ) → (i < n) × (f i ≡ k) → (j < n) × (f j ≡ k) → i ≡ j

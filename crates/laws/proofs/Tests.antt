@@ -35,10 +35,5 @@ pub or-true : (a : Bool) → (a || true) ≡ true
 or-true true = refl
 or-true false = refl
 
-pub or-swap : (a b : Bool) → (a || b) ≡ (b || a)
-or-swap true b = sym (or-true b)
-or-swap false true = refl
-or-swap false false = refl
-
 pub eqb-agree : (a b c d : ℕ) → (a ≡ b → c ≡ d) → (c ≡ d → a ≡ b) → eqb a b ≡ eqb c d
 eqb-agree a b c d f g = ⊎-elim (λ h. eq-eqb a b h ∙ sym (eq-eqb c d (f h))) (λ h. ne-eqb a b h ∙ sym (ne-eqb c d (λ e. h (g e)))) (eq-or-ne a b)

@@ -11,9 +11,6 @@ ghost use Rattle.numbering.specs.Outcome.{lent, leaving};
 ghost use Rattle.numbering.specs.Promised.{Promised};
 ghost use Rattle.sheet.specs.Amounts.{numbersPerEdge, journalNumbersPerEdge, mostEdges};
 
-// How many numbers of the journal an edge needs.
-const JOURNAL_NUMBERS: usize = 8;
-
 // Gives every edge its polygon number and its place round the polygon, or says why not.
 // Takes every list and every size of the lent slices. Accepted: both lists filled, the records in the journal followed by zeros, the rows all zeros.
 pub fn number(
@@ -44,7 +41,7 @@ fn number_checked(
     ensures { λ r. ⌜ leaving r (now (polygons .exit)) (now (sequences .exit)) (now (journal .exit)) (now (rows .exit)) ≡ sweepsOn (lent (now (edges .entry)) (now (polygons .entry)) (now (sequences .entry)) (now (journal .entry)) (now (rows .entry))) ⌝ }
 {
     let n = edges.len() / Edge::NUMBERS;
-    let used = JOURNAL_NUMBERS * n;
+    let used = Edge::JOURNAL_NUMBERS * n;
     let answer = sweep_both(edges, polygons, sequences, &mut journal[..used], rows);
     journal::zero_from(journal, 2 * n);
     answer

@@ -84,6 +84,12 @@ impl Edge {
     // How many numbers an edge has in a list: tail x, tail y, head x, head y.
     pub const NUMBERS: usize = 4;
 
+    // The most edges that a list holds.
+    pub const MOST: usize = 4096;
+
+    // The least numbers that the journal has for an edge.
+    pub const JOURNAL_NUMBERS: usize = 8;
+
     // The edge at a place of a list.
     pub fn at(edges: &[i32], place: usize) -> Edge
         requires { ⌜ numbersPerEdge * place + 3 < length (now edges) ⌝ }

@@ -1,6 +1,7 @@
 // The turn list: the places of the edges, polygon by polygon, each polygon in sequence order, read from a numbering; refusals 11 to 14.
 // What is right, specs/TurnList.antt of the crate sheet says. An edge's polygon and sequence number make one key, and the keys are put in order: an
 // edge's place among them is its place in the turn list. 13 and 14 ask where a key stands, by halving. All in all that is n log n steps.
+use sheet::Edge;
 use sheet::TurnAnswer;
 use sheet::TurnRefusal;
 ghost use mathlib.Core.Path.{_≡_};
@@ -14,7 +15,7 @@ ghost use Rattle.turns.specs.Answers.{withoutPolygon, sequenceMissing, p
 ghost use Rattle.turns.specs.Order.{Blank, Ordered};
 
 // The most edges that a turn list holds.
-const MOST_EDGES: usize = 4096;
+const MOST_EDGES: usize = Edge::MOST;
 
 // What stands in the order where no edge was met: no edge's place.
 const NOBODY: u32 = 4096;
