@@ -27,7 +27,7 @@ abbrev pub bytes : String → List ℕ
 bytes string.[] = []
 bytes (string._∷_ c s) = code c ∷ bytes s
 
--- a number's decimal digits: it has no more of them than one more than itself
+-- a number's decimal digits: up to n + 1 of them, none a leading zero (proofs/Digits.antt, `decimal-is`)
 unfoldable pub decimal : ℕ → List ℕ
 decimal n = written.decimal (suc n) n
 
@@ -48,12 +48,12 @@ refused number place = line (bytes "refused") (decimal number ∷ decimal place 
 unfoldable pub edgeLine : ℕ → ℕ → ℕ → List ℕ
 edgeLine place polygon sequence = line (decimal place) (decimal polygon ∷ decimal sequence ∷ [])
 
--- the edges below n, the last first
+-- .. the last first, of n edges
 unfoldable pub edgeLines : List ℕ → List ℕ → ℕ → List ℕ
 edgeLines polygons sequences zero = []
 edgeLines polygons sequences (suc e) = edgeLine e (getD polygons e 0) (getD sequences e 0) ++ edgeLines polygons sequences e
 
--- what is printed for n edges and the answer of their call
+-- 01 Program 6 and 7: what is printed for n edges, by the answer of their call and its two lists
 abbrev pub answerLines : ℕ → Answer → List ℕ → List ℕ → List ℕ
 answerLines n (Accepted count peak records) polygons sequences = accepted count peak records ++ edgeLines polygons sequences n
 answerLines n (Refused r) polygons sequences = refused (numberOf r) (placeOf r)
@@ -79,6 +79,6 @@ readingLines s TooMuch = refused 2 0
 readingLines s (Malformed line) = refused 15 line
 readingLines s (Edges n) = outcomeLines n (outcome (lentFor n (edgesRead s n)))
 
--- the room is four numbers for each of the 512 lines that a text may have
+-- the text is read into a room of four numbers for each of 512 lines
 unfoldable pub printed : List ℕ → List ℕ
 printed s = readingLines s (readingOf s (numbersPerEdge * 512))
