@@ -5,3 +5,4 @@ pub mod AlikeDown
 pub mod Bounded
 pub mod Reaching
 pub mod Stopping
+pub mod Tops
