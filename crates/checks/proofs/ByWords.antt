@@ -21,7 +21,7 @@ use Rattle.sheet.specs.Answers.{sameFrom, sameKind, repeats, differ, uneven}
 use Rattle.checks.specs.declared.places.AtFault.{AtFault}
 use Rattle.checks.specs.Faults.{EndsFit}
 use Rattle.checks.specs.Ends.{wayNumber, fromNumber, placeNumber, wordOf, keyIn, placeIn, edgeIn, arrivesIn, Ordered}
-use Rattle.checks.specs.Places.{Walks, repeatsIn, arrivesAt, leavesAt, unevenAt, Found, firstAtFault}
+use Rattle.checks.specs.Places.{Walks, repeatsIn, arrivesAt, leavesAt, unevenAt, FoundSoFar, firstAtFault}
 use Rattle.checks.proofs.LeastEdge.{least-first}
 use Rattle.checks.proofs.Words.{from-small, way-small, word-edge, word-key, word-place, word-way}
 
@@ -191,7 +191,7 @@ module _ {s : List ℤ} {words : List ℕ} {n : ℕ} (E : EndsFit s n) (O : Orde
           let same : keyIn words (i .0 - 1) ≡ keyIn words (i .0) = omega (arith, keys, rises (j .0) (i .0 - 1) (omega arith) (omega (arith, i .1)), rises (i .0 - 1) (i .0) (omega arith) (i .1)) in
           (i .0, i .1, both (lt-ltb 0 (i .0) (omega arith)) (eq-eqb (keyIn words (i .0 - 1)) (keyIn words (i .0)) same), edge-told w e (i .0) l (i .2))
 
-  pub found-first : {f : AtFault} → Found words (2 * n) n (2 * n) f → f ≡ firstAtFault s
+  pub found-first : {f : AtFault} → FoundSoFar words (2 * n) n (2 * n) f → f ≡ firstAtFault s
   unfolding firstAtFault
   found-first {f} F = λ i. record { repeated = repeated i; uneven = uneven-edge i }
     where

@@ -17,7 +17,7 @@ use Rattle.laws.proofs.Between.{count-between}
 use Rattle.laws.proofs.Either.{count-either}
 use Rattle.checks.specs.declared.places.AtFault.{AtFault}
 use Rattle.checks.specs.Ends.{keyIn, placeIn, edgeIn, arrivesIn}
-use Rattle.checks.specs.Places.{Walks, Visited, AtPlace, repeatsIn, arrivesAt, leavesAt, unevenAt, anyEnd, Least, Found}
+use Rattle.checks.specs.Places.{Walks, Visited, AtPlace, repeatsIn, arrivesAt, leavesAt, unevenAt, anyEnd, Least, FoundSoFar}
 use Rattle.checks.proofs.LeastEdge.{least-start, least-before, least-join}
 
 -- the ends from a on that have the place of the end at a
@@ -87,13 +87,13 @@ module _ {words : List ℕ} {m a b : ℕ} (P : AtPlace words m a b) where
       (lt-or-le 0 a)
 
   -- what is found at the place, put together with what was found before
-  pub found-more : {none x y : ℕ} {f : AtFault} → Found words m none a f → Least (repeatsIn words) (edgeIn words) none (a + 1) b x → Least (unevenAt words m) (edgeIn words) none a b y → Found words m none b (record { repeated = min (f .repeated) x; uneven = min (f .uneven) y })
+  pub found-more : {none x y : ℕ} {f : AtFault} → FoundSoFar words m none a f → Least (repeatsIn words) (edgeIn words) none (a + 1) b x → Least (unevenAt words m) (edgeIn words) none a b y → FoundSoFar words m none b (record { repeated = min (f .repeated) x; uneven = min (f .uneven) y })
   found-more F x y = record {
     repeated = least-join (omega arith) (omega (arith, P .some)) (F .repeated) (least-before first-new x);
     uneven = least-join (omega arith) (omega (arith, P .some)) (F .uneven) y;
   }
 
-pub found-none : (words : List ℕ) (m none : ℕ) → Found words m none 0 (record { repeated = none; uneven = none })
+pub found-none : (words : List ℕ) (m none : ℕ) → FoundSoFar words m none 0 (record { repeated = none; uneven = none })
 found-none words m none = record { repeated = least-start; uneven = least-start }
 
 -- one more end is counted

@@ -60,6 +60,6 @@ pub record Least (test : ℕ → Bool) (edge : ℕ → ℕ) (none a b r : ℕ) :
   pub under : (k : ℕ) → a ≤ k → k < b → test k ≡ true → r ≤ edge k
 
 -- what is found among the first b of m ends
-pub record Found (words : List ℕ) (m none b : ℕ) (f : AtFault) : Type 0 where
+pub record FoundSoFar (words : List ℕ) (m none b : ℕ) (f : AtFault) : Type 0 where
   pub repeated : Least (repeatsIn words) (edgeIn words) none 0 b (f .repeated)
   pub uneven : Least (unevenAt words m) (edgeIn words) none 0 b (f .uneven)

@@ -15,7 +15,7 @@ ghost use Rattle.sheet.specs.Edges.{edgesIn};
 ghost use Rattle.checks.specs.Faults.{EndsFit};
 ghost use Rattle.checks.specs.Stages.{placesChecked};
 ghost use Rattle.checks.specs.Ends.{edgeIn, arrivesIn};
-ghost use Rattle.checks.specs.Places.{firstAtFault, Least, repeatsIn, anyEnd, unevenAt, Walks, Visited, AtPlace, Found};
+ghost use Rattle.checks.specs.Places.{firstAtFault, Least, repeatsIn, anyEnd, unevenAt, Walks, Visited, AtPlace, FoundSoFar};
 
 // Each end of a list, two for an edge.
 const MOST_ENDS: usize = 2 * MOST_EDGES;
@@ -109,8 +109,8 @@ fn least_uneven(words: &[u64], m: usize, from: usize, to: usize, none: usize) ->
 // What is done at a place, whose ends stand from `from` to `to`.
 fn at_place(words: &[u64], m: usize, from: usize, to: usize, found: AtFault, none: usize) -> AtFault
     requires place { ⌜ Walks (now words) m × AtPlace (now words) m from to ⌝ }
-    requires found { ⌜ Found (now words) m none from found ⌝ }
-    ensures { λ r. ⌜ Found (now (words .entry)) m none to r ⌝ }
+    requires found { ⌜ FoundSoFar (now words) m none from found ⌝ }
+    ensures { λ r. ⌜ FoundSoFar (now (words .entry)) m none to r ⌝ }
 {
     let repeated = least_repeated(words, from, to, none);
     let uneven = least_uneven(words, m, from, to, none);
@@ -123,7 +123,7 @@ fn at_place(words: &[u64], m: usize, from: usize, to: usize, found: AtFault, non
 // The walk over m ends in order, place by place.
 fn walk(words: &[u64], m: usize, none: usize) -> AtFault
     requires { ⌜ Walks (now words) m ⌝ }
-    ensures { λ r. ⌜ Found (now (words .entry)) m none m r ⌝ }
+    ensures { λ r. ⌜ FoundSoFar (now (words .entry)) m none m r ⌝ }
 {
     let mut found = AtFault {
         repeated: none,

@@ -11,7 +11,7 @@ use Rattle.sheet.specs.declared.TurnAnswer.{TurnAnswer}
 use Rattle.sheet.specs.declared.TurnAnswer.the-variants as turn
 use Rattle.sheet.specs.Answers.{numberOf, placeOf}
 use Rattle.sheet.specs.TurnList.{turnNumberOf, turnPlaceOf, turned, GoodLists, TurnsAfter}
-use Rattle.numbering.specs.Outcome.{Lent, Left, leaving}
+use Rattle.numbering.specs.Outcome.{Lent, Left, leftAs}
 use Rattle.numbering.specs.Promised.{Promised}
 use Rattle.desk.specs.declared.Sheet.{Sheet}
 use Rattle.desk.specs.declared.Turned.{Turned}
@@ -25,7 +25,7 @@ turnedFrom (turn.Accepted polygons) = record { refusal = 0; place = 0; polygons 
 turnedFrom (turn.Refused r) = record { refusal = turnNumberOf r; place = turnPlaceOf r; polygons = 0 }
 
 abbrev pub byNumbers : Left Answer → Left Sheet
-byNumbers x = leaving (sheetFrom (x .answer)) (x .polygons) (x .sequences) (x .journal) (x .rows)
+byNumbers x = leftAs (sheetFrom (x .answer)) (x .polygons) (x .sequences) (x .journal) (x .rows)
 
 -- a call's exported answer: what the numbering promises of the call, by its numbers
 pub record Exports (l : Lent) (y : Left Sheet) : Type 0 where

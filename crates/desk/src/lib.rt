@@ -2,7 +2,7 @@
 use sheet::Answer;
 use sheet::TurnAnswer;
 ghost use mathlib.Core.Path.{_≡_};
-ghost use Rattle.numbering.specs.Outcome.{lent, leaving};
+ghost use Rattle.numbering.specs.Outcome.{lent, leftAs};
 ghost use Rattle.desk.specs.Exported.{sheetFrom, turnedFrom, Exports, ReadTurns};
 
 // What the numbering answers. Refusal 0: accepted, with place 0. Refused: the other three are 0.
@@ -76,7 +76,7 @@ pub extern "C" fn outline_number(
     journal: &mut [i32],
     rows: &mut [i32],
 ) -> Sheet
-    ensures { λ r. ⌜ Exports (lent (now (edges .entry)) (now (polygons .entry)) (now (sequences .entry)) (now (journal .entry)) (now (rows .entry))) (leaving r (now (polygons .exit)) (now (sequences .exit)) (now (journal .exit)) (now (rows .exit))) ⌝ }
+    ensures { λ r. ⌜ Exports (lent (now (edges .entry)) (now (polygons .entry)) (now (sequences .entry)) (now (journal .entry)) (now (rows .entry))) (leftAs r (now (polygons .exit)) (now (sequences .exit)) (now (journal .exit)) (now (rows .exit))) ⌝ }
 {
     sheet_of(numbering::number(edges, polygons, sequences, journal, rows))
 }

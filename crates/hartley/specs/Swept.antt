@@ -5,11 +5,11 @@ use Rattle.steps.specs.Rows.{Row, Record}
 use Rattle.steps.specs.SweepUp.{Sweep, sweepUp, start}
 use Rattle.steps.specs.SweepDown.{Pair, Reading, sweepDown}
 use Rattle.steps.specs.Plain.{plainJournal, plainTables}
-use Rattle.steps.specs.Swept.{plainRoom, edgeOf}
+use Rattle.steps.specs.Swept.{plainRoom, drawnEdge}
 
 -- the first k edges swept up with so many rows and records, rows looked for as far as they have been opened, whatever the table and the journal hold before
 abbrev pub sweptTo : Drawing → ℕ → ℕ → (ℕ → Row ℕ) → (ℕ → Record) → ℕ → Sweep (ℕ → Row ℕ) (ℕ → Record)
-sweptTo sh rows records t j k = sweepUp (plainRoom sh rows records) (edgeOf sh) (start 0 t j) k
+sweptTo sh rows records t j k = sweepUp (plainRoom sh rows records) (drawnEdge sh) (start 0 t j) k
 
 -- all of them
 abbrev pub swept : Drawing → ℕ → ℕ → (ℕ → Row ℕ) → (ℕ → Record) → Sweep (ℕ → Row ℕ) (ℕ → Record)

@@ -28,7 +28,7 @@ use Rattle.journal.specs.Layout.{recordSlice}
 use Rattle.sweep.specs.declared.Swept.{Swept}
 use Rattle.sweep.specs.Slices.{room, lentRoom, swept, isDone, listEdges}
 use Rattle.sweep.specs.Lookup.{tables, reading}
-use Rattle.numbering.specs.Outcome.{Lent, leaving, callOf, up, answerBy, leaves, outcome}
+use Rattle.numbering.specs.Outcome.{Lent, leftAs, callOf, up, answerBy, leaves, outcome}
 use Rattle.numbering.specs.OnSlices.{sweptUp, readDown, afterSweep, sweeps, inJournal, wholeJournal, sweepsOn}
 use Rattle.sheet.specs.Amounts.{journalNumbersPerEdge, mostEdges}
 use Rattle.steps.specs.Swept.{numbersPerRecord}
@@ -58,15 +58,15 @@ module _ (l : Lent) (few : edgesIn (l .list) ≤ mostEdges) (eight : length (l .
 -- the state after the sweep up, as the code has it
 module _ (l : Lent) {rows₁ journal₁ : List ℤ} {w : Swept} (E : swept rows₁ journal₁ w ≡ sweptUp l) (same-journal : length journal₁ ≡ length (l .journal)) where
   -- not done: everything is given up
-  gives-up : (u : End) → isDone u ≡ false → leaving (answer.Refused (NoRow (w .edge))) (l .polygons) (l .sequences) (replicate (length (l .journal)) (pos 0)) (replicate (length (l .rows)) (pos 0)) ≡ afterSweep l (swept rows₁ journal₁ w) u
+  gives-up : (u : End) → isDone u ≡ false → leftAs (answer.Refused (NoRow (w .edge))) (l .polygons) (l .sequences) (replicate (length (l .journal)) (pos 0)) (replicate (length (l .rows)) (pos 0)) ≡ afterSweep l (swept rows₁ journal₁ w) u
   gives-up Done h = absurd (not-both refl h)
   gives-up NoFreeRow h = refl
   gives-up Overrun h = refl
 
-  pub when-stopped : isDone (w .progress .end) ≡ false → {journal₂ rows₂ : List ℤ} → length rows₁ ≡ length (l .rows) → journal₂ ≡ take (numbersPerRecord * 0) journal₁ ++ replicate (length journal₁ - numbersPerRecord * 0) (pos 0) → rows₂ ≡ replicate (length rows₁) (pos 0) → leaving (answer.Refused (NoRow (w .edge))) (l .polygons) (l .sequences) journal₂ rows₂ ≡ sweeps l
+  pub when-stopped : isDone (w .progress .end) ≡ false → {journal₂ rows₂ : List ℤ} → length rows₁ ≡ length (l .rows) → journal₂ ≡ take (numbersPerRecord * 0) journal₁ ++ replicate (length journal₁ - numbersPerRecord * 0) (pos 0) → rows₂ ≡ replicate (length rows₁) (pos 0) → leftAs (answer.Refused (NoRow (w .edge))) (l .polygons) (l .sequences) journal₂ rows₂ ≡ sweeps l
   unfolding sweeps
   when-stopped h {journal₂} {rows₂} same-rows j r =
-      (λ i. leaving (answer.Refused (NoRow (w .edge))) (l .polygons) (l .sequences) ((j ∙ none-taken) i) ((r ∙ ap (λ n. replicate n (pos 0)) same-rows) i))
+      (λ i. leftAs (answer.Refused (NoRow (w .edge))) (l .polygons) (l .sequences) ((j ∙ none-taken) i) ((r ∙ ap (λ n. replicate n (pos 0)) same-rows) i))
       ∙ gives-up (w .progress .end) h
       ∙ λ i. afterSweep l (E i) (E i .state .end)
     where
@@ -82,11 +82,11 @@ module _ (l : Lent) {rows₁ journal₁ : List ℤ} {w : Swept} (E : swept rows�
     unfolding readDown
     read-is = D
 
-    pub when-done : {journal₂ rows₃ : List ℤ} → length rows₂ ≡ length (l .rows) → journal₂ ≡ take (numbersPerRecord * w .progress .records) journal₁ ++ replicate (length journal₁ - numbersPerRecord * w .progress .records) (pos 0) → rows₃ ≡ replicate (length rows₂) (pos 0) → leaving (answer.Accepted count (w .progress .peak) (w .progress .records)) p₂ q₂ journal₂ rows₃ ≡ sweeps l
+    pub when-done : {journal₂ rows₃ : List ℤ} → length rows₂ ≡ length (l .rows) → journal₂ ≡ take (numbersPerRecord * w .progress .records) journal₁ ++ replicate (length journal₁ - numbersPerRecord * w .progress .records) (pos 0) → rows₃ ≡ replicate (length rows₂) (pos 0) → leftAs (answer.Accepted count (w .progress .peak) (w .progress .records)) p₂ q₂ journal₂ rows₃ ≡ sweeps l
     unfolding sweeps
     when-done {journal₂} {rows₃} same-rows j r =
-        (λ i. leaving (answer.Accepted count (w .progress .peak) (w .progress .records)) p₂ q₂ ((j ∙ then-zeros) i) ((r ∙ ap (λ n. replicate n (pos 0)) same-rows) i))
-        ∙ (λ i. leaving (answer.Accepted (read-is i .polygons) (w .progress .peak) (w .progress .records)) (read-is i .answers .polygons) (read-is i .answers .sequences) (take (numbersPerRecord * w .progress .records) journal₁ ++ replicate (length (l .journal) - length (take (numbersPerRecord * w .progress .records) journal₁)) (pos 0)) (replicate (length (l .rows)) (pos 0)))
+        (λ i. leftAs (answer.Accepted count (w .progress .peak) (w .progress .records)) p₂ q₂ ((j ∙ then-zeros) i) ((r ∙ ap (λ n. replicate n (pos 0)) same-rows) i))
+        ∙ (λ i. leftAs (answer.Accepted (read-is i .polygons) (w .progress .peak) (w .progress .records)) (read-is i .answers .polygons) (read-is i .answers .sequences) (take (numbersPerRecord * w .progress .records) journal₁ ++ replicate (length (l .journal) - length (take (numbersPerRecord * w .progress .records) journal₁)) (pos 0)) (replicate (length (l .rows)) (pos 0)))
         ∙ (λ i. afterSweep l (swept rows₁ journal₁ w) (sym d i))
         ∙ λ i. afterSweep l (E i) (E i .state .end)
       where
@@ -98,9 +98,9 @@ module _ (l : Lent) (long : journalNumbersPerEdge * edgesIn (l .list) ≤ length
   pub part-long : length (inJournal l .journal) ≡ journalNumbersPerEdge * edgesIn (l .list)
   part-long = length-take-le (journalNumbersPerEdge * edgesIn (l .list)) (l .journal) long
 
-  pub behind : {a : Answer} {p q : List ℕ} {part journal₂ rows₂ : List ℤ} → leaving a p q part rows₂ ≡ sweeps (inJournal l) → length part ≡ journalNumbersPerEdge * edgesIn (l .list) → journal₂ ≡ take (numbersPerRecord * (2 * edgesIn (l .list))) (part ++ drop (journalNumbersPerEdge * edgesIn (l .list)) (l .journal)) ++ replicate (length (part ++ drop (journalNumbersPerEdge * edgesIn (l .list)) (l .journal)) - numbersPerRecord * (2 * edgesIn (l .list))) (pos 0) → leaving a p q journal₂ rows₂ ≡ sweepsOn l
+  pub behind : {a : Answer} {p q : List ℕ} {part journal₂ rows₂ : List ℤ} → leftAs a p q part rows₂ ≡ sweeps (inJournal l) → length part ≡ journalNumbersPerEdge * edgesIn (l .list) → journal₂ ≡ take (numbersPerRecord * (2 * edgesIn (l .list))) (part ++ drop (journalNumbersPerEdge * edgesIn (l .list)) (l .journal)) ++ replicate (length (part ++ drop (journalNumbersPerEdge * edgesIn (l .list)) (l .journal)) - numbersPerRecord * (2 * edgesIn (l .list))) (pos 0) → leftAs a p q journal₂ rows₂ ≡ sweepsOn l
   behind {a} {p} {q} {part} {journal₂} {rows₂} E same j =
-      (λ i. leaving a p q ((j ∙ whole) i) rows₂) ∙ (λ i. wholeJournal (length (l .journal)) (E i))
+      (λ i. leftAs a p q ((j ∙ whole) i) rows₂) ∙ (λ i. wholeJournal (length (l .journal)) (E i))
     where
       front : take (numbersPerRecord * (2 * edgesIn (l .list))) (part ++ drop (journalNumbersPerEdge * edgesIn (l .list)) (l .journal)) ≡ part
       front = take-at part (drop (journalNumbersPerEdge * edgesIn (l .list)) (l .journal)) (numbersPerRecord * (2 * edgesIn (l .list))) (omega arith)
@@ -131,8 +131,8 @@ no-ten (no-row a b d e) = refl
 pub never-ten : (c : Call) {r : Refusal} → checked c ≡ check.Refused r → eqb (numberOf r) 10 ≡ false
 never-ten c e = ap isTen (sym e) ∙ no-ten (row c)
 
-pub when-refused : (l : Lent) (r : Refusal) → checked (callOf l) ≡ check.Refused r → leaving (answer.Refused r) (l .polygons) (l .sequences) (l .journal) (l .rows) ≡ outcome l
+pub when-refused : (l : Lent) (r : Refusal) → checked (callOf l) ≡ check.Refused r → leftAs (answer.Refused r) (l .polygons) (l .sequences) (l .journal) (l .rows) ≡ outcome l
 unfolding outcome
 when-refused l r e =
-    ap (λ t. leaving (answer.Refused r) (l .polygons) (l .sequences) (cond t (zeros (l .journal)) (l .journal)) (cond t (zeros (l .rows)) (l .rows))) (sym (never-ten (callOf l) e))
+    ap (λ t. leftAs (answer.Refused r) (l .polygons) (l .sequences) (cond t (zeros (l .journal)) (l .journal)) (cond t (zeros (l .rows)) (l .rows))) (sym (never-ten (callOf l) e))
     ∙ ap (λ x. leaves l (answered x (answerBy l (up l .state .end)))) (sym e)

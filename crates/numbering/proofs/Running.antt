@@ -24,14 +24,14 @@ use Rattle.steps.specs.Rows.{Record, recordNumbers}
 use Rattle.steps.specs.SweepUp.{Sweep, start}
 use Rattle.steps.specs.SweepDown.{naturalPart, Pair, Reading}
 use Rattle.steps.specs.Plain.{plainTables, plainJournal}
-use Rattle.steps.specs.Swept.{rowsIn, plainRoom, edgeOf, freeRows, noRecords, noPairs, sweptTo, readDown, numbersPerRecord}
+use Rattle.steps.specs.Swept.{rowsIn, plainRoom, drawnEdge, freeRows, noRecords, noPairs, sweptTo, readDown, numbersPerRecord}
 use Rattle.steps.proofs.Alike.{Match, Alike, AlikeSweep, start-alike, sweep-alike}
 use Rattle.steps.proofs.AlikeDown.{MatchDown, AlikeReading, down-alike}
 use Rattle.journal.specs.Layout.{recordSlice, recordsIn}
 use Rattle.sweep.specs.Slices.{room, apartAt, listEdges}
 use Rattle.sweep.specs.Lookup.{numbersIn, tables, reading}
 use Rattle.hartley.proofs.results.Results as results
-use Rattle.numbering.specs.Outcome.{Lent, Left, callOf, leaving, up, down, answerBy, leaves, outcome}
+use Rattle.numbering.specs.Outcome.{Lent, Left, callOf, leftAs, up, down, answerBy, leaves, outcome}
 use Rattle.numbering.specs.OnSlices as slices
 use Rattle.numbering.specs.OnSlices.{inJournal, wholeJournal, afterSweep, sweepsOn}
 use Rattle.numbering.proofs.Matching.{Ranked, HoldsRows, HoldsRecords, sliceRoom, matched}
@@ -105,7 +105,7 @@ module _ (l : Lent) (ok : checked (callOf l) ≡ Passed) where
   alike : AlikeSweep M (slices.sweptUp (inJournal l)) (up l)
   unfolding slices.sweptUp up room sweptTo drawingOf apartAt
   alike =
-      sweep-alike M (listEdges (l .list)) (edgeOf sheet) edges
+      sweep-alike M (listEdges (l .list)) (drawnEdge sheet) edges
       (λ i h. record { name = refl; small = omega (arith, h, all .few); tail = record { inside = all .tails-in-range i h; is-rank = refl }; head = record { inside = all .heads-in-range i h; is-rank = refl }; length = refl; apart = refl })
       same-start
 
@@ -201,7 +201,7 @@ module _ (l : Lent) (ok : checked (callOf l) ≡ Passed) where
     unfolding slices.sweeps
     runs-done =
         ap (λ u. wholeJournal (length (l .journal)) (afterSweep (inJournal l) swept u)) (alike .state .end ∙ done)
-        ∙ (λ i. leaving (Accepted (same-count i) (alike .state .peak i) (alike .state .records i)) (same-polygon-list i) (same-sequence-list i) (same-journal i) (replicate (length (l .rows)) (pos 0)))
+        ∙ (λ i. leftAs (Accepted (same-count i) (alike .state .peak i) (alike .state .records i)) (same-polygon-list i) (same-sequence-list i) (same-journal i) (replicate (length (l .rows)) (pos 0)))
 
   -- no free row: zeros
   runs-stopped : up l .state .end ≡ NoFreeRow → sweepsOn l ≡ leaves l (Refused (NoRow (up l .edge)))
@@ -211,7 +211,7 @@ module _ (l : Lent) (ok : checked (callOf l) ≡ Passed) where
       let long : length (replicate (length part) (pos 0)) ≡ length part = length-replicate (length part) (pos 0) in
       let z : followedByZeros (replicate (length part) (pos 0)) (length (l .journal)) ≡ replicate (length (l .journal)) (pos 0) = ap (λ k. replicate (length part) (pos 0) ++ replicate (length (l .journal) - k) (pos 0)) long ∙ replicate-append-replicate (length part) (length (l .journal) - length part) (pos 0) ∙ ap (λ k. replicate k (pos 0)) n in
       ap (λ u. wholeJournal (length (l .journal)) (afterSweep (inJournal l) (slices.sweptUp (inJournal l)) u)) (alike .state .end ∙ d)
-      ∙ (λ i. leaving (Refused (NoRow (alike .edge i))) (l .polygons) (l .sequences) (z i) (replicate (length (l .rows)) (pos 0)))
+      ∙ (λ i. leftAs (Refused (NoRow (alike .edge i))) (l .polygons) (l .sequences) (z i) (replicate (length (l .rows)) (pos 0)))
 
   -- what the outcome is, by how the sweep up ends
   pub outcome-by : {u : End} → up l .state .end ≡ u → outcome l ≡ leaves l (answered Passed (answerBy l u))

@@ -69,5 +69,5 @@ outcome l = leaves l (answered (checked (callOf l)) (answerBy l (up l .state .en
 abbrev pub lent : List ℤ → List ℕ → List ℕ → List ℤ → List ℤ → Lent
 lent list polygons sequences journal rows = record { list = list; polygons = polygons; sequences = sequences; journal = journal; rows = rows }
 
-abbrev pub leaving : {A : Type 0} → A → List ℕ → List ℕ → List ℤ → List ℤ → Left A
-leaving a polygons sequences journal rows = record { answer = a; polygons = polygons; sequences = sequences; journal = journal; rows = rows }
+abbrev pub leftAs : {A : Type 0} → A → List ℕ → List ℕ → List ℤ → List ℤ → Left A
+leftAs a polygons sequences journal rows = record { answer = a; polygons = polygons; sequences = sequences; journal = journal; rows = rows }

@@ -13,7 +13,7 @@ use Rattle.sheet.specs.Numbering.{Numbering}
 use Rattle.sheet.specs.Passing.{Enough}
 use Rattle.sheet.specs.Answers.{checked, zeros}
 use Rattle.steps.specs.Swept.{rowsIn, LacksRow}
-use Rattle.numbering.specs.Outcome.{Lent, Left, callOf, outcome, leaving}
+use Rattle.numbering.specs.Outcome.{Lent, Left, callOf, outcome, leftAs}
 
 -- the same call with another row table
 abbrev pub withRows : Lent → List ℤ → Lent
@@ -39,7 +39,7 @@ pub record Promised (l : Lent) (x : Left Answer) : Type 0 where
   pub enough-there : checked (callOf l) ≡ Passed → 0 < edgesIn (l .list) → RowsEnough l
   pub enough-rows : checked (callOf l) ≡ Passed → (E : RowsEnough l) → E .rows ≤ rowsIn (l .rows) → (polygons : ℕ) × (peak : ℕ) × (records : ℕ) × (x .answer ≡ Accepted polygons peak records)
   -- the peak is exact: with that many rows or more the same call gives the same answer, numbers and journal, with fewer it is refused
-  pub peak-enough : (polygons peak records : ℕ) → x .answer ≡ Accepted polygons peak records → (rows : List ℤ) → peak ≤ rowsIn rows → outcome (withRows l rows) ≡ leaving (x .answer) (x .polygons) (x .sequences) (x .journal) (zeros rows)
+  pub peak-enough : (polygons peak records : ℕ) → x .answer ≡ Accepted polygons peak records → (rows : List ℤ) → peak ≤ rowsIn rows → outcome (withRows l rows) ≡ leftAs (x .answer) (x .polygons) (x .sequences) (x .journal) (zeros rows)
   pub fewer-refused : (polygons peak records : ℕ) → x .answer ≡ Accepted polygons peak records → (rows : List ℤ) → rowsIn rows < peak → (e : ℕ) × (outcome (withRows l rows) .answer ≡ Refused (NoRow e))
   -- refusal 10 at an edge, exactly when step 1 finds no free row while that edge is treated
   pub lacks-row : (e : ℕ) → x .answer ≡ Refused (NoRow e) → (checked (callOf l) ≡ Passed) × LacksRow (drawingOf (l .list)) (rowsIn (l .rows)) e

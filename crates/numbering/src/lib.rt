@@ -7,7 +7,7 @@ ghost use mathlib.Core.Path.{_≡_};
 ghost use Prim.Native.Nat.{_*_, _/_, _≤_};
 ghost use lib.ListN.{length};
 ghost use Rattle.numbering.specs.OnSlices.{sweeps, sweepsOn};
-ghost use Rattle.numbering.specs.Outcome.{lent, leaving};
+ghost use Rattle.numbering.specs.Outcome.{lent, leftAs};
 ghost use Rattle.numbering.specs.Promised.{Promised};
 ghost use Rattle.sheet.specs.Amounts.{numbersPerEdge, journalNumbersPerEdge, mostEdges};
 
@@ -20,7 +20,7 @@ pub fn number(
     journal: &mut [i32],
     rows: &mut [i32],
 ) -> Answer
-    ensures { λ r. ⌜ Promised (lent (now (edges .entry)) (now (polygons .entry)) (now (sequences .entry)) (now (journal .entry)) (now (rows .entry))) (leaving r (now (polygons .exit)) (now (sequences .exit)) (now (journal .exit)) (now (rows .exit))) ⌝ }
+    ensures { λ r. ⌜ Promised (lent (now (edges .entry)) (now (polygons .entry)) (now (sequences .entry)) (now (journal .entry)) (now (rows .entry))) (leftAs r (now (polygons .exit)) (now (sequences .exit)) (now (journal .exit)) (now (rows .exit))) ⌝ }
 {
     let checked = checks::check(edges, polygons.len(), sequences.len(), journal.len());
     match checked {
@@ -38,7 +38,7 @@ fn number_checked(
     rows: &mut [i32],
 ) -> Answer
     requires { ⌜ (length (now edges) / numbersPerEdge ≤ mostEdges) × (journalNumbersPerEdge * (length (now edges) / numbersPerEdge) ≤ length (now journal)) ⌝ }
-    ensures { λ r. ⌜ leaving r (now (polygons .exit)) (now (sequences .exit)) (now (journal .exit)) (now (rows .exit)) ≡ sweepsOn (lent (now (edges .entry)) (now (polygons .entry)) (now (sequences .entry)) (now (journal .entry)) (now (rows .entry))) ⌝ }
+    ensures { λ r. ⌜ leftAs r (now (polygons .exit)) (now (sequences .exit)) (now (journal .exit)) (now (rows .exit)) ≡ sweepsOn (lent (now (edges .entry)) (now (polygons .entry)) (now (sequences .entry)) (now (journal .entry)) (now (rows .entry))) ⌝ }
 {
     let n = edges.len() / Edge::NUMBERS;
     let used = Edge::JOURNAL_NUMBERS * n;
@@ -56,7 +56,7 @@ fn sweep_both(
     rows: &mut [i32],
 ) -> Answer
     requires { ⌜ (length (now edges) / numbersPerEdge ≤ mostEdges) × (length (now journal) ≡ journalNumbersPerEdge * (length (now edges) / numbersPerEdge)) ⌝ }
-    ensures { λ r. ⌜ leaving r (now (polygons .exit)) (now (sequences .exit)) (now (journal .exit)) (now (rows .exit)) ≡ sweeps (lent (now (edges .entry)) (now (polygons .entry)) (now (sequences .entry)) (now (journal .entry)) (now (rows .entry))) ⌝ }
+    ensures { λ r. ⌜ leftAs r (now (polygons .exit)) (now (sequences .exit)) (now (journal .exit)) (now (rows .exit)) ≡ sweeps (lent (now (edges .entry)) (now (polygons .entry)) (now (sequences .entry)) (now (journal .entry)) (now (rows .entry))) ⌝ }
 {
     let n = edges.len() / Edge::NUMBERS;
     let swept = sweep::up::sweep_up(edges, n, journal, rows);

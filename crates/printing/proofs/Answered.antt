@@ -9,7 +9,7 @@ use Rattle.sheet.specs.declared.Answer.{Answer}
 use Rattle.sheet.specs.declared.Answer.the-variants.{Accepted, Refused}
 use Rattle.sheet.specs.declared.Refusal.{Refusal}
 use Rattle.sheet.specs.Answers.{numberOf, placeOf}
-use Rattle.numbering.specs.Outcome.{Left, lent, leaving, outcome}
+use Rattle.numbering.specs.Outcome.{Left, lent, leftAs, outcome}
 use Rattle.printing.specs.Output.{accepted, refused, edgeLines, outcomeLines, lentFor}
 use Rattle.printing.specs.Laid.{Laid}
 use Rattle.sheet.specs.Amounts.{journalNumbersPerEdge}
@@ -19,7 +19,7 @@ take-replicate zero m v h = refl
 take-replicate (suc n) zero v h = absurd (omega arith)
 take-replicate (suc n) (suc m) v h = ap (λ l. v ∷ l) (take-replicate n m v (omega arith))
 
-module _ {x : Left Answer} {a : Answer} {polygons sequences : List ℕ} {journal rows : List ℤ} (e : leaving a polygons sequences journal rows ≡ x) {l y : List ℕ} {r : ℕ} (n : ℕ) where
+module _ {x : Left Answer} {a : Answer} {polygons sequences : List ℕ} {journal rows : List ℤ} (e : leftAs a polygons sequences journal rows ≡ x) {l y : List ℕ} {r : ℕ} (n : ℕ) where
   pub accepted-so : {count peak records : ℕ} → a ≡ Accepted count peak records → length polygons ≡ n → Laid l 0 (accepted count peak records ++ edgeLines polygons sequences (length polygons)) y r → Laid l 0 (outcomeLines n x) y r
   unfolding outcomeLines
   accepted-so q m h = rw (← e, q, ← m) h

@@ -7,11 +7,11 @@ use borrow.Author.Tests.{lt-ltb, le-ltb}
 use Rattle.laws.proofs.Deciding.{lt-or-le}
 use Rattle.sheet.specs.Edges.{Drawing, topHeight, bottomHeight}
 use Rattle.steps.specs.SweepUp.{sideOf, bottom, top}
-use Rattle.steps.specs.Swept.{placesOf, edgeOf}
+use Rattle.steps.specs.Swept.{placesOf, drawnEdge}
 
 pub record StepHeights (sh : Drawing) (e : ℕ) : Type 0 where
-  pub top-is : sh .height (top (sideOf (placesOf sh) (edgeOf sh e)) (edgeOf sh e)) ≡ topHeight sh e
-  pub bottom-is : sh .height (bottom (sideOf (placesOf sh) (edgeOf sh e)) (edgeOf sh e)) ≡ bottomHeight sh e
+  pub top-is : sh .height (top (sideOf (placesOf sh) (drawnEdge sh e)) (drawnEdge sh e)) ≡ topHeight sh e
+  pub bottom-is : sh .height (bottom (sideOf (placesOf sh) (drawnEdge sh e)) (drawnEdge sh e)) ≡ bottomHeight sh e
 
 pub step-heights : (sh : Drawing) (e : ℕ) → StepHeights sh e
 step-heights sh e = ⊎-elim up down (lt-or-le (sh .height (sh .tail e)) (sh .height (sh .head e)))

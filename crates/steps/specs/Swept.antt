@@ -20,8 +20,8 @@ abbrev pub plainRoom : Drawing → ℕ → ℕ → Room ℕ (ℕ → Row ℕ) (�
 plainRoom sh rows records = record { places = placesOf sh; table = plainTable; journal = plainJournal; rows = rows; records = records }
 
 -- the drawing's edges at level 0
-abbrev pub edgeOf : Drawing → ℕ → LevelEdge ℕ
-edgeOf sh i = listEdge (placesOf sh) (sh .apart) i (sh .tail i) (sh .head i)
+abbrev pub drawnEdge : Drawing → ℕ → LevelEdge ℕ
+drawnEdge sh i = listEdge (placesOf sh) (sh .apart) i (sh .tail i) (sh .head i)
 
 -- the numbers of a row and of a record in the slices lent
 abbrev pub numbersPerRow : ℕ
@@ -46,7 +46,7 @@ noPairs e = record { polygon = 0; sequence = pos 0 }
 
 -- the first k edges swept up with so many rows
 unfoldable pub sweptTo : Drawing → ℕ → ℕ → Sweep (ℕ → Row ℕ) (ℕ → Record)
-sweptTo sh rows k = sweepUp (plainRoom sh rows (2 * sh .edges)) (edgeOf sh) (start rows freeRows noRecords) k
+sweptTo sh rows k = sweepUp (plainRoom sh rows (2 * sh .edges)) (drawnEdge sh) (start rows freeRows noRecords) k
 
 -- the records read down
 unfoldable pub readDown : (ℕ → Record) → ℕ → Reading (ℕ → Pair) (ℕ → Pair)
@@ -56,4 +56,4 @@ readDown j n = sweepDown plainTables plainJournal j n (record { table = noPairs;
 pub record LacksRow (sh : Drawing) (rows e : ℕ) : Type 0 where
   pub is-edge : e < sh .edges
   pub before : sweptTo sh rows e .state .end ≡ Done
-  pub lacking : treat (plainRoom sh rows (2 * sh .edges)) levels 0 (sweptTo sh rows e .state) (edgeOf sh e) .end ≡ NoFreeRow
+  pub lacking : treat (plainRoom sh rows (2 * sh .edges)) levels 0 (sweptTo sh rows e .state) (drawnEdge sh e) .end ≡ NoFreeRow

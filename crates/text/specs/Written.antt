@@ -1,4 +1,4 @@
--- How numbers, edges and lists of edges are written. No contract cites this: it is for the theorem that what is written so is read.
+-- How numbers, edges and lists of edges are written. What the program prints goes by `decimal`; the rest is for the theorem that what is written so is read.
 use Prim.Native.Nat.{ℕ, zero, suc, _+_, _/_, _%_, _<_}
 use mathlib.Core.Bool.{cond}
 use mathlib.Core.List.{List, [], _∷_, _++_}

@@ -95,11 +95,19 @@ struct House {
     path: String,
 }
 
+/// A house is outside the repository, since `rt` asks which crate every source
+/// below its root belongs to, and is gone with its test.
+impl Drop for House {
+    fn drop(&mut self) {
+        let _ = fs::remove_dir_all(&self.folder);
+    }
+}
+
 impl House {
     /// A house in which nothing is built yet. The program is what a stand-in
     /// says in sh, or the real one where that is empty.
     fn unbuilt(name: &str, stand_in: &str) -> House {
-        let folder = Path::new(env!("CARGO_TARGET_TMPDIR")).join(name);
+        let folder = std::env::temp_dir().join(format!("outline-{}-{name}", std::process::id()));
         let _ = fs::remove_dir_all(&folder);
         fs::create_dir_all(&folder).unwrap();
         let real = match stand_in {

@@ -1,5 +1,5 @@
 -- `outline_number` meets its contract: the promise of `number`, its answer as plain numbers.
-use Rattle.numbering.specs.Outcome.{leaving}
+use Rattle.numbering.specs.Outcome.{leftAs}
 use borrow.Author.Needs.{needs}
 use Rattle.desk.proofs.outline_number.Statement.{statement}
 use Rattle.desk.proofs.outline_number.Tie as tie
@@ -10,7 +10,7 @@ returns c =
     record {
       inner = _;
       promised = n .ensures;
-      same = λ i. leaving (c .sheet-of .ensures i) (n .last .1 .0) (n .last .1 .1 .0) (n .last .1 .1 .1 .0) (n .last .1 .1 .1 .1 .0);
+      same = λ i. leftAs (c .sheet-of .ensures i) (n .last .1 .0) (n .last .1 .1 .0) (n .last .1 .1 .1 .0) (n .last .1 .1 .1 .1 .0);
     }
 
 pub outline-number-spec : {M : Type 1} → statement M

@@ -16,7 +16,7 @@ use Rattle.steps.specs.declared.End.{End}
 use Rattle.steps.specs.declared.End.the-variants.{Done, NoFreeRow}
 use Rattle.steps.specs.Rows.{otherSide, on, Row, Record}
 use Rattle.steps.specs.SweepUp.{Sweep, start, sweepUp, treat, levels, afterDone, bottom, top}
-use Rattle.steps.specs.Swept.{edgeOf}
+use Rattle.steps.specs.Swept.{drawnEdge}
 use Rattle.hartley.specs.Swept.{sweptTo}
 use Rattle.hartley.proofs.paths.Plan.{Plan, Lawful, uneven, height, tip, Climbs}
 use Rattle.hartley.proofs.paths.DownLaw.{Rec}
@@ -150,7 +150,7 @@ module _ (A : Setting) where
     past : (B : Naming) (G : Paths) → Past i l s B G → Result i l s
     stopped : s .end ≡ NoFreeRow → (k : ℕ) (h : k < A .sheet .edges) → Crowded A (time N k h) → Result i l s
 
-  pre-edge : (i : ℕ) (h : i < A .sheet .edges) (s : Work) (B : Naming) (G : Paths) → Before i h s B G → Pre sh (topOf sh i) (suc i) (tableOf s) B G 0 (edgeOf (A .sheet) i)
+  pre-edge : (i : ℕ) (h : i < A .sheet .edges) (s : Work) (B : Naming) (G : Paths) → Before i h s B G → Pre sh (topOf sh i) (suc i) (tableOf s) B G 0 (drawnEdge (A .sheet) i)
   unfolding marksOf
   pre-edge i h s B G Q = record {
     live = l;
@@ -166,7 +166,7 @@ module _ (A : Setting) where
     parts = parts;
   }
     where
-      parts : (t : Side) → height sh (bottom t (edgeOf (A .sheet) i)) < height sh (top t (edgeOf (A .sheet) i)) → edgeOf (A .sheet) i .apart ≡ sh .list .apart (top t (edgeOf (A .sheet) i))
+      parts : (t : Side) → height sh (bottom t (drawnEdge (A .sheet) i)) < height sh (top t (drawnEdge (A .sheet) i)) → drawnEdge (A .sheet) i .apart ≡ sh .list .apart (top t (drawnEdge (A .sheet) i))
       parts Rising q = ap (λ u. sh .list .apart (cond u (sh .list .head i) (sh .list .tail i))) (lt-ltb _ _ q)
       parts Falling q = ap (λ u. sh .list .apart (cond u (sh .list .head i) (sh .list .tail i))) (le-ltb (height sh (sh .list .tail i)) (height sh (sh .list .head i)) (omega (arith, q)))
 
@@ -176,29 +176,29 @@ module _ (A : Setting) where
       w : (t : Side) → G .end t (edge i) ≡ i
       w = single N (time N i h) (Q .inv .state .frame) i l
 
-      ends : (t : Side) → tip sh t (G .end t (edge i)) ≡ top t (edgeOf (A .sheet) i)
+      ends : (t : Side) → tip sh t (G .end t (edge i)) ≡ top t (drawnEdge (A .sheet) i)
       ends Rising = ap (sh .list .head) (w Rising)
       ends Falling = ap (sh .list .tail) (w Falling)
 
-      lengths : (t : Side) → G .length t (edge i) ≡ on t (edgeOf (A .sheet) i .length)
+      lengths : (t : Side) → G .length t (edge i) ≡ on t (drawnEdge (A .sheet) i .length)
       lengths Rising = Q .inv .state .frame .lone i l .1
       lengths Falling = Q .inv .state .frame .lone i l .0
 
-      climbs-i : (t : Side) → height sh (bottom t (edgeOf (A .sheet) i)) < height sh (top t (edgeOf (A .sheet) i)) → Climbs sh t i
+      climbs-i : (t : Side) → height sh (bottom t (drawnEdge (A .sheet) i)) < height sh (top t (drawnEdge (A .sheet) i)) → Climbs sh t i
       climbs-i Rising q = q
       climbs-i Falling q = q
 
-      climbs : (t : Side) → height sh (bottom t (edgeOf (A .sheet) i)) < height sh (top t (edgeOf (A .sheet) i)) → Climbs sh t (G .end t (edge i))
+      climbs : (t : Side) → height sh (bottom t (drawnEdge (A .sheet) i)) < height sh (top t (drawnEdge (A .sheet) i)) → Climbs sh t (G .end t (edge i))
       climbs t q = rw (w t) (climbs-i t q)
 
   other-edge : {a i : ℕ} → (a ≡ i → ⊥) → edge a ≡ edge i → ⊥
   other-edge d e = d (cc)
 
-  treated : (i : ℕ) (h : i < A .sheet .edges) (s : Work) (B : Naming) (G : Paths) → Before i h s B G → Result i h (treat (roomIn A) levels 0 s (edgeOf (A .sheet) i))
-  treated i h s B G Q = by (treat-outcome A (time N i h) levels 0 refl s (edgeOf (A .sheet) i) B G (Q .inv) (pre-edge i h s B G Q) (Q .clean) (omega (arith, Q .listed-is)))
+  treated : (i : ℕ) (h : i < A .sheet .edges) (s : Work) (B : Naming) (G : Paths) → Before i h s B G → Result i h (treat (roomIn A) levels 0 s (drawnEdge (A .sheet) i))
+  treated i h s B G Q = by (treat-outcome A (time N i h) levels 0 refl s (drawnEdge (A .sheet) i) B G (Q .inv) (pre-edge i h s B G Q) (Q .clean) (omega (arith, Q .listed-is)))
     where
       s′ : Work
-      s′ = treat (roomIn A) levels 0 s (edgeOf (A .sheet) i)
+      s′ = treat (roomIn A) levels 0 s (drawnEdge (A .sheet) i)
 
       by : Outcome A (time N i h) s′ (1 + listed (journalOf s)) (λ B′ G′. Kept 0 (edge i) (tableOf s) (tableOf s′) B B′ G G′) → Result i h s′
       by (full e c) = stopped e i h c
@@ -256,7 +256,7 @@ module _ (A : Setting) where
     sweep-result (suc i) l = by (sweep-result i (omega arith))
       where
         s′ : Work
-        s′ = treat (roomIn A) levels 0 (at (suc i) .state) (edgeOf (A .sheet) (suc i))
+        s′ = treat (roomIn A) levels 0 (at (suc i) .state) (drawnEdge (A .sheet) (suc i))
 
         by : {m : i < A .sheet .edges} → Result i m (at (suc i) .state) → Result (suc i) l (afterDone (at (suc i) .state .end) (at (suc i)) (record { state = s′; edge = suc i }) .state)
         by (stopped e k h c) = rw (next-state (at (suc i)) s′ (suc i) NoFreeRow e) (stopped e k h c)

@@ -17,7 +17,7 @@ use Rattle.steps.specs.Rows.{Row, Record}
 use Rattle.steps.specs.SweepUp.{Sweep, start}
 use Rattle.steps.specs.SweepDown.{naturalPart, Pair, Reading}
 use Rattle.steps.specs.Plain.{plainTable, plainJournal, plainTables}
-use Rattle.steps.specs.Swept.{placesOf, plainRoom, edgeOf, freeRows, noRecords, noPairs, sweptTo, LacksRow}
+use Rattle.steps.specs.Swept.{placesOf, plainRoom, drawnEdge, freeRows, noRecords, noPairs, sweptTo, LacksRow}
 use Rattle.steps.proofs.AlikeDown.{Holding, AllHeld}
 use Rattle.steps.proofs.Bounded.{sweep-within}
 use Rattle.steps.proofs.Reaching.{SameRun, all-rows}
@@ -45,11 +45,11 @@ module _ {sh : Drawing} (K : Checked sh) (few : sh .edges ≤ mostEdges) where
 
     same : SameRun near up
     unfolding sweptTo
-    same = all-rows (placesOf sh) rows (2 * sh .edges) (edgeOf sh) freeRows noRecords (λ r l. refl) (sh .edges)
+    same = all-rows (placesOf sh) rows (2 * sh .edges) (drawnEdge sh) freeRows noRecords (λ r l. refl) (sh .edges)
 
     -- the peak is as far as rows have been opened
     peak-near : up .state .peak ≡ near .state .reach
-    peak-near = sym (same .peak) ∙ sweep-within (plainRoom sh rows (2 * sh .edges)) (edgeOf sh) (sh .edges) freeRows noRecords .by-name
+    peak-near = sym (same .peak) ∙ sweep-within (plainRoom sh rows (2 * sh .edges)) (drawnEdge sh) (sh .edges) freeRows noRecords .by-name
 
     -- the sweep up ends done or without a free row, never in an overrun
     pub up-ends : (up .state .end ≡ Done) ⊎ (up .state .end ≡ NoFreeRow)
@@ -58,11 +58,11 @@ module _ {sh : Drawing} (K : Checked sh) (few : sh .edges ≤ mostEdges) where
     -- .. and without a free row at edge e exactly when step 1 lacks one while e is treated
     pub lacks-row : up .state .end ≡ NoFreeRow → LacksRow sh rows (up .edge)
     unfolding sweptTo
-    lacks-row h = let S = stops-at (plainRoom sh rows (2 * sh .edges)) (edgeOf sh) (start rows freeRows noRecords) refl (sh .edges) h in record { is-edge = S .is-edge; before = S .before; lacking = S .lacking }
+    lacks-row h = let S = stops-at (plainRoom sh rows (2 * sh .edges)) (drawnEdge sh) (start rows freeRows noRecords) refl (sh .edges) h in record { is-edge = S .is-edge; before = S .before; lacking = S .lacking }
 
     pub lacking-row : (e : ℕ) → LacksRow sh rows e → (up .state .end ≡ NoFreeRow) × (up .edge ≡ e)
     unfolding sweptTo
-    lacking-row e L = stopped (plainRoom sh rows (2 * sh .edges)) (edgeOf sh) (start rows freeRows noRecords) (sh .edges) e (record { is-edge = L .is-edge; before = L .before; lacking = L .lacking })
+    lacking-row e L = stopped (plainRoom sh rows (2 * sh .edges)) (drawnEdge sh) (start rows freeRows noRecords) (sh .edges) e (record { is-edge = L .is-edge; before = L .before; lacking = L .lacking })
 
     module _ (done : up .state .end ≡ Done) where
       F : Finished A (near .state)
@@ -106,10 +106,10 @@ module _ {sh : Drawing} (K : Checked sh) (few : sh .edges ≤ mostEdges) where
   -- runs with n rows and with no fewer: the same where the peak of the second is within n, otherwise the first ends without a free row
   module _ (n rows : ℕ) (more : n ≤ rows) where
     cut-within : up rows .state .peak ≤ n → near n ≡ near rows
-    cut-within h = sweep-cut (placesOf sh) plainTable plainJournal (2 * sh .edges) n rows more (edgeOf sh) (start 0 freeRows noRecords) (sh .edges) (omega arith) .within (omega (arith, h, peak-near rows))
+    cut-within h = sweep-cut (placesOf sh) plainTable plainJournal (2 * sh .edges) n rows more (drawnEdge sh) (start 0 freeRows noRecords) (sh .edges) (omega arith) .within (omega (arith, h, peak-near rows))
 
     cut-beyond : n < up rows .state .peak → up n .state .end ≡ NoFreeRow
-    cut-beyond h = sym (same n .end) ∙ sweep-cut (placesOf sh) plainTable plainJournal (2 * sh .edges) n rows more (edgeOf sh) (start 0 freeRows noRecords) (sh .edges) (omega arith) .beyond (omega (arith, h, peak-near rows))
+    cut-beyond h = sym (same n .end) ∙ sweep-cut (placesOf sh) plainTable plainJournal (2 * sh .edges) n rows more (drawnEdge sh) (start 0 freeRows noRecords) (sh .edges) (omega arith) .beyond (omega (arith, h, peak-near rows))
 
   same-run : (n rows : ℕ) → near n ≡ near rows → SameRun (up n) (up rows)
   same-run n rows e =

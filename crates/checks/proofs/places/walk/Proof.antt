@@ -4,13 +4,13 @@ use mathlib.Core.Path.{_≡_, subst}
 use Prim.Native.Nat.{ℕ, _≤_, _-_}
 use native.Mathlib.Omega.{arith}
 use borrow.Author.Needs.{needs}
-use Rattle.checks.specs.Places.{Visited, Found}
+use Rattle.checks.specs.Places.{Visited, FoundSoFar}
 use Rattle.checks.proofs.Visiting.{visited-none, visited-more, found-none}
 use Rattle.checks.proofs.places.walk.Statement.{statement}
 use Rattle.checks.proofs.places.walk.Tie as tie
 
 abbrev Inv-loop : tie.InvT-loop
-Inv-loop words m none found₀ from₀ found from = (from ≤ m) × Visited words m from × Found words m none from found
+Inv-loop words m none found₀ from₀ found from = (from ≤ m) × Visited words m from × FoundSoFar words m none from found
 
 abbrev μ-loop : tie.MeasureT-loop
 μ-loop words m none found₀ from₀ found from = m - from
@@ -28,7 +28,7 @@ returns : tie.Need-returns Inv-loop μ-loop
 returns c = let a = c .before .before .before .args in
     let l = c .before .loop in
     let q : l .from ≡ a .m = omega arith in
-    subst (λ (b : ℕ). Found (a .words .now) (a .m) (a .none) b (l .found)) q (l .inv .2)
+    subst (λ (b : ℕ). FoundSoFar (a .words .now) (a .m) (a .none) b (l .found)) q (l .inv .2)
 
 pub walk-spec : {M : Type 1} → statement M
 walk-spec =
