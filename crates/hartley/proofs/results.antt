@@ -1,4 +1,5 @@
 -- The whole list: how the sweeps end, that they give the numbering, rows that are enough, the exact peak. Results is what other crates cite.
+pub mod NearRun
 pub mod ListSwept
 pub mod SweepEnded
 pub mod GivesNumbering

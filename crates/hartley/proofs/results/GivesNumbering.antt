@@ -14,7 +14,7 @@ use Rattle.sheet.specs.Joining.{Follows}
 use Rattle.sheet.specs.Numbering.{Numbering}
 use Rattle.sheet.proofs.Checked.{joins}
 use Rattle.steps.specs.SweepDown.{naturalPart, Pair, Reading}
-use Rattle.hartley.specs.Swept.{readDown}
+use Rattle.hartley.proofs.results.NearRun.{readWith}
 use Rattle.steps.specs.declared.Side.the-variants.{Falling}
 use Rattle.hartley.proofs.paths.Plan.{Plan, Lawful, uneven, height, Climbs}
 use Rattle.hartley.proofs.paths.DownLaw.{ofEdge, eval}
@@ -55,7 +55,7 @@ module _ (A : Setting) (s : Work) (F : Finished A s) (table answers : ℕ → Pa
   N = laws A
 
   abbrev pub read : Reading (ℕ → Pair) (ℕ → Pair)
-  read = readDown (s .journal) (s .records) table answers
+  read = readWith (s .journal) (s .records) table answers
 
   abbrev polygon : ℕ → ℕ
   polygon e = read .answers e .polygon

@@ -17,7 +17,7 @@ use Rattle.steps.specs.declared.End.the-variants.{Done, NoFreeRow}
 use Rattle.steps.specs.Rows.{otherSide, on, Row, Record}
 use Rattle.steps.specs.SweepUp.{Sweep, start, sweepUp, treat, levels, afterDone, bottom, top}
 use Rattle.steps.specs.Swept.{drawnEdge}
-use Rattle.hartley.specs.Swept.{sweptTo}
+use Rattle.hartley.proofs.results.NearRun.{nearTo}
 use Rattle.hartley.proofs.paths.Plan.{Plan, Lawful, uneven, height, tip, Climbs}
 use Rattle.hartley.proofs.paths.DownLaw.{Rec}
 use Rattle.hartley.proofs.paths.JournalRead.{recs}
@@ -245,7 +245,7 @@ module _ (A : Setting) where
     }
 
     abbrev at : ℕ → Sweep (ℕ → Row ℕ) (ℕ → Record)
-    at k = sweptTo (A .sheet) (A .rows) (A .records) t j k
+    at k = nearTo (A .sheet) (A .rows) (A .records) t j k
 
     next-state : (w : Sweep (ℕ → Row ℕ) (ℕ → Record)) (s : Work) (i : ℕ) (d : End) → w .state .end ≡ d → afterDone (w .state .end) w (record { state = s; edge = i }) .state ≡ afterDone d w (record { state = s; edge = i }) .state
     next-state w s i d e = ap (λ x. afterDone x w (record { state = s; edge = i }) .state) e

@@ -10,7 +10,7 @@ use Rattle.steps.specs.Rows.{Chain, inRow, closing, Record}
 use Rattle.steps.specs.SweepDown.{Pair, Reading, readRecord, sweepDown}
 use Rattle.steps.specs.Plain.{plainTables, plainJournal}
 use Rattle.steps.proofs.AlikeDown.{Holding, GiveHeld, RecordHeld, AllHeld}
-use Rattle.hartley.specs.Swept.{readDown}
+use Rattle.hartley.proofs.results.NearRun.{readWith}
 use Rattle.hartley.proofs.paths.Differences.{diff, after-back}
 use Rattle.hartley.proofs.paths.DownLaw as down
 use Rattle.hartley.proofs.paths.DownLaw.{Name, ofEdge, ofRow, nameAt, same-name?, at, done, place, move, eval, shift}
@@ -38,7 +38,7 @@ module _ (A : Setting) (s : Work) (F : Finished A s) where
     Read = Reading (ℕ → Pair) (ℕ → Pair)
 
     abbrev final : Read
-    final = readDown (s .journal) (s .records) table answers
+    final = readWith (s .journal) (s .records) table answers
 
     -- the reading from d on gives the answers
     abbrev Onwards : ℕ → Read → Type 0

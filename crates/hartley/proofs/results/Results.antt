@@ -22,7 +22,7 @@ use Rattle.steps.proofs.AlikeDown.{Holding, AllHeld}
 use Rattle.steps.proofs.Bounded.{sweep-within}
 use Rattle.steps.proofs.Reaching.{SameRun, all-rows}
 use Rattle.steps.proofs.Stopping.{stops-at, stopped}
-use Rattle.hartley.specs.Swept.{swept, readDown}
+use Rattle.hartley.proofs.results.NearRun.{nearRun, readWith}
 use Rattle.hartley.proofs.results.PeakExact.{Cut, sweep-cut}
 use Rattle.hartley.proofs.step.Given.{Setting}
 use Rattle.hartley.proofs.results.SweepEnded.{Finished, sweep-ends, when-done}
@@ -41,7 +41,7 @@ module _ {sh : Drawing} (K : Checked sh) (few : sh .edges ≤ mostEdges) where
     up = sweptTo sh rows (sh .edges)
 
     abbrev near : Sweep (ℕ → Row ℕ) (ℕ → Record)
-    near = swept sh rows (2 * sh .edges) freeRows noRecords
+    near = nearRun sh rows (2 * sh .edges) freeRows noRecords
 
     same : SameRun near up
     unfolding sweptTo
@@ -73,7 +73,7 @@ module _ {sh : Drawing} (K : Checked sh) (few : sh .edges ≤ mostEdges) where
 
       module _ (table answers : ℕ → Pair) where
         abbrev pub down : Reading (ℕ → Pair) (ℕ → Pair)
-        down = readDown (up .state .journal) (up .state .records) table answers
+        down = readWith (up .state .journal) (up .state .records) table answers
 
         -- 2E - P
         pub few-records : up .state .records + down .polygons ≤ 2 * sh .edges

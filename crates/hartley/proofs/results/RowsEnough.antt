@@ -15,7 +15,7 @@ use Rattle.sheet.specs.Passing.{passing, outlineSize, Enough}
 use Rattle.sheet.proofs.Checked.{joins}
 use Rattle.steps.specs.declared.End.the-variants.{Done, NoFreeRow}
 use Rattle.steps.specs.Rows.{Row, Record}
-use Rattle.hartley.specs.Swept.{swept}
+use Rattle.hartley.proofs.results.NearRun.{nearRun}
 use Rattle.hartley.proofs.paths.Plan.{height}
 use Rattle.hartley.proofs.seams.LongOutline as weight
 use Rattle.hartley.proofs.bounds.LengthsAndLevels.{room-many, pow-le, level-small}
@@ -25,10 +25,10 @@ use Rattle.hartley.proofs.results.ListSwept.{topOf}
 use Rattle.hartley.proofs.results.SweepEnded.{sweep-ends, when-refused}
 
 -- twelve rows an edge are enough whatever the outlines: no level is above 12, and no more edges pass a place than there are
-pub twelve-each : (A : Setting) (t : ℕ → Row ℕ) (j : ℕ → Record) → 12 * A .sheet .edges ≤ A .rows → swept (A .sheet) (A .rows) (A .records) t j .state .end ≡ Done
+pub twelve-each : (A : Setting) (t : ℕ → Row ℕ) (j : ℕ → Record) → 12 * A .sheet .edges ≤ A .rows → nearRun (A .sheet) (A .rows) (A .records) t j .state .end ≡ Done
 twelve-each A t j lent = ⊎-elim (λ d. d) (λ d. absurd (refused d)) (sweep-ends A t j)
   where
-    refused : swept (A .sheet) (A .rows) (A .records) t j .state .end ≡ NoFreeRow → ⊥
+    refused : nearRun (A .sheet) (A .rows) (A .records) t j .state .end ≡ NoFreeRow → ⊥
     refused d =
         let w = when-refused A t j d in
         omega (arith, w .2 12 (λ l r. level-small (laws A) (A .few) l r), count-le (passes (plan A) (topOf (plan A) (w .0))) (A .sheet .edges), lent)
@@ -42,7 +42,7 @@ module _ (A : Setting) (polygon : ℕ → ℕ) (shared : (e f : ℕ) → Follows
       ⊎-elim (λ h. absurd (omega (arith, many, most (polygon (r .0)), pow-le (suc log) l h))) (λ h. omega arith) (lt-or-le log l)
 
   module _ (t : ℕ → Row ℕ) (j : ℕ → Record) (c : ℕ) (enough : Enough (A .sheet) polygon c) (lent : c ≤ A .rows) where
-    not-refused : swept (A .sheet) (A .rows) (A .records) t j .state .end ≡ NoFreeRow → ⊥
+    not-refused : nearRun (A .sheet) (A .rows) (A .records) t j .state .end ≡ NoFreeRow → ⊥
     unfolding passing
     not-refused d =
         let w = when-refused A t j d in
@@ -52,5 +52,5 @@ module _ (A : Setting) (polygon : ℕ → ℕ) (shared : (e f : ℕ) → Follows
         omega (arith, crowd, mul-le-mul-left (enough .log) pass, mul-comm (enough .log) (enough .C), enough .rows-are, lent)
 
     -- demand 3
-    pub enough-rows : swept (A .sheet) (A .rows) (A .records) t j .state .end ≡ Done
+    pub enough-rows : nearRun (A .sheet) (A .rows) (A .records) t j .state .end ≡ Done
     enough-rows = ⊎-elim (λ d. d) (λ d. absurd (not-refused d)) (sweep-ends A t j)

@@ -10,7 +10,7 @@ use Rattle.laws.proofs.Deciding.{lt-or-le, true-or-false}
 use Rattle.steps.specs.declared.End.the-variants.{Done, NoFreeRow}
 use Rattle.steps.specs.Rows.{Row, Record}
 use Rattle.steps.specs.SweepUp.{start, sweepUp}
-use Rattle.hartley.specs.Swept.{sweptTo, swept}
+use Rattle.hartley.proofs.results.NearRun.{nearTo, nearRun}
 use Rattle.hartley.proofs.paths.Plan.{Plan, Lawful}
 use Rattle.hartley.proofs.paths.JournalRead.{recs, records-recs}
 use Rattle.hartley.proofs.paths.Paths.{edge, row, out, Paths, size, Chain}
@@ -112,7 +112,7 @@ module _ (A : Setting) where
         unlisted = unfold listed in refl
 
     abbrev over : Work
-    over = swept (A .sheet) (A .rows) (A .records) t j .state
+    over = nearRun (A .sheet) (A .rows) (A .records) t j .state
 
     -- at which edge there was no row
     pub data Ending (s : Work) : Type 0 where
@@ -121,16 +121,16 @@ module _ (A : Setting) where
 
     pub ending : Ending over
     unfolding sweepUp
-    ending = ⊎-elim (λ l. some (A .sheet .edges - 1) (omega arith) (omega arith)) (λ l. let z : A .sheet .edges ≡ 0 = omega arith in subst (λ k. Ending (sweptTo (A .sheet) (A .rows) (A .records) t j k .state)) (sym z) (none z)) (lt-or-le 0 (A .sheet .edges))
+    ending = ⊎-elim (λ l. some (A .sheet .edges - 1) (omega arith) (omega arith)) (λ l. let z : A .sheet .edges ≡ 0 = omega arith in subst (λ k. Ending (nearTo (A .sheet) (A .rows) (A .records) t j k .state)) (sym z) (none z)) (lt-or-le 0 (A .sheet .edges))
       where
         some : (i : ℕ) → i < A .sheet .edges → suc i ≡ A .sheet .edges → Ending over
-        some i l e = subst (λ k. Ending (sweptTo (A .sheet) (A .rows) (A .records) t j k .state)) e (by (sweep-result A t j i l))
+        some i l e = subst (λ k. Ending (nearTo (A .sheet) (A .rows) (A .records) t j k .state)) e (by (sweep-result A t j i l))
           where
             by : {s : Work} → Result A i l s → Ending s
             by (past B G Q) = finished (Q .inv .is-done) (at-end i l e _ B G Q)
             by (stopped d k h c) = refused d k h c
 
-        none : A .sheet .edges ≡ 0 → Ending (sweptTo (A .sheet) (A .rows) (A .records) t j 0 .state)
+        none : A .sheet .edges ≡ 0 → Ending (nearTo (A .sheet) (A .rows) (A .records) t j 0 .state)
         none z = finished refl (empty z)
 
     -- it ends done or without a free row

@@ -1,2 +1,0 @@
--- The runs that the theory speaks of.
-pub mod Swept
