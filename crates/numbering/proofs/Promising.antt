@@ -31,7 +31,7 @@ use Rattle.steps.specs.Swept.{rowsIn, readDown, LacksRow}
 use Rattle.steps.proofs.Reaching.{SameRun}
 use Rattle.hartley.proofs.results.Results as results
 use Rattle.numbering.specs.Outcome.{Lent, Left, callOf, up, down, answerBy, leaves, outcome, leftAs}
-use Rattle.numbering.specs.Promised.{Promised, RowsEnough, withRows}
+use Rattle.numbering.specs.Promised.{Promised, RowsEnough, withOtherRows}
 use Rattle.numbering.proofs.Leaving.{never-ten}
 use Rattle.numbering.proofs.Renamed.{numbering-same}
 use Rattle.numbering.proofs.Running.{few, ends, numbers, records-and-polygons, outcome-by}
@@ -132,23 +132,23 @@ module _ (l : Lent) where
     A : AcceptedBy l p k m
     A = accepted-by l p k m q
 
-    peak-enough : k ≤ rowsIn rows → outcome (withRows l rows) ≡ leftAs (outcome l .answer) (outcome l .polygons) (outcome l .sequences) (outcome l .journal) (zeros rows)
+    peak-enough : k ≤ rowsIn rows → outcome (withOtherRows l rows) ≡ leftAs (outcome l .answer) (outcome l .polygons) (outcome l .sequences) (outcome l .journal) (zeros rows)
     unfolding up down drawingOf
     peak-enough h =
         let S = results.peak-suffices (passed (callOf l) (A .ok) .sheet) (few l (A .ok)) (rowsIn (l .rows)) (rowsIn rows) (A .is-done) (omega (arith, h, A .peak-is)) in
-        let o = outcome-by (withRows l rows) (A .ok) (S .end ∙ A .is-done) in
+        let o = outcome-by (withOtherRows l rows) (A .ok) (S .end ∙ A .is-done) in
         same o (A .outcome-is) S
       where
-        same : outcome (withRows l rows) ≡ leaves (withRows l rows) (Accepted (down (withRows l rows) .polygons) (up (withRows l rows) .state .peak) (up (withRows l rows) .state .records)) → outcome l ≡ leaves l (Accepted (down l .polygons) (up l .state .peak) (up l .state .records)) → SameRun (up (withRows l rows)) (up l) → outcome (withRows l rows) ≡ leftAs (outcome l .answer) (outcome l .polygons) (outcome l .sequences) (outcome l .journal) (zeros rows)
+        same : outcome (withOtherRows l rows) ≡ leaves (withOtherRows l rows) (Accepted (down (withOtherRows l rows) .polygons) (up (withOtherRows l rows) .state .peak) (up (withOtherRows l rows) .state .records)) → outcome l ≡ leaves l (Accepted (down l .polygons) (up l .state .peak) (up l .state .records)) → SameRun (up (withOtherRows l rows)) (up l) → outcome (withOtherRows l rows) ≡ leftAs (outcome l .answer) (outcome l .polygons) (outcome l .sequences) (outcome l .journal) (zeros rows)
         same o a S =
             o
             ∙ (λ i. leftAs (Accepted (readDown (S .journal i) (S .records i) .polygons) (S .peak i) (S .records i)) (listOf (λ e. readDown (S .journal i) (S .records i) .answers e .polygon) (edgesIn (l .list))) (listOf (λ e. naturalPart (readDown (S .journal i) (S .records i) .answers e .sequence)) (edgesIn (l .list))) (followedByZeros (listed (λ j. recordNumbers (S .journal i j)) (S .records i)) (length (l .journal))) (zeros rows))
             ∙ ap (λ z. leftAs (z .answer) (z .polygons) (z .sequences) (z .journal) (zeros rows)) (sym a)
 
-    fewer-refused : rowsIn rows < k → (e : ℕ) × (outcome (withRows l rows) .answer ≡ Refused (NoRow e))
+    fewer-refused : rowsIn rows < k → (e : ℕ) × (outcome (withOtherRows l rows) .answer ≡ Refused (NoRow e))
     unfolding up drawingOf
     fewer-refused h =
-        (_, ap (λ x. x .answer) (outcome-by (withRows l rows) (A .ok) (results.fewer-refused (passed (callOf l) (A .ok) .sheet) (few l (A .ok)) (rowsIn (l .rows)) (rowsIn rows) (A .is-done) (omega (arith, h, A .peak-is)))))
+        (_, ap (λ x. x .answer) (outcome-by (withOtherRows l rows) (A .ok) (results.fewer-refused (passed (callOf l) (A .ok) .sheet) (few l (A .ok)) (rowsIn (l .rows)) (rowsIn rows) (A .is-done) (omega (arith, h, A .peak-is)))))
 
 pub promised : (l : Lent) (x : Left Answer) → x ≡ outcome l → Promised l x
 promised l x e =

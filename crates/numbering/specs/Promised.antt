@@ -16,8 +16,8 @@ use Rattle.steps.specs.Swept.{rowsIn, LacksRow}
 use Rattle.numbering.specs.Outcome.{Lent, Left, callOf, outcome, leftAs}
 
 -- the same call with another row table
-abbrev pub withRows : Lent → List ℤ → Lent
-withRows l rows = record { list = l .list; polygons = l .polygons; sequences = l .sequences; journal = l .journal; rows = rows }
+abbrev pub withOtherRows : Lent → List ℤ → Lent
+withOtherRows l rows = record { list = l .list; polygons = l .polygons; sequences = l .sequences; journal = l .journal; rows = rows }
 
 -- rows that are always enough for a list, with the numbering that they are counted by
 pub record RowsEnough (l : Lent) : Type 0 where
@@ -39,8 +39,8 @@ pub record Promised (l : Lent) (x : Left Answer) : Type 0 where
   pub enough-there : checked (callOf l) ≡ Passed → 0 < edgesIn (l .list) → RowsEnough l
   pub enough-rows : checked (callOf l) ≡ Passed → (E : RowsEnough l) → E .rows ≤ rowsIn (l .rows) → (polygons : ℕ) × (peak : ℕ) × (records : ℕ) × (x .answer ≡ Accepted polygons peak records)
   -- the peak is exact: with that many rows or more the same call gives the same answer, numbers and journal, with fewer it is refused
-  pub peak-enough : (polygons peak records : ℕ) → x .answer ≡ Accepted polygons peak records → (rows : List ℤ) → peak ≤ rowsIn rows → outcome (withRows l rows) ≡ leftAs (x .answer) (x .polygons) (x .sequences) (x .journal) (zeros rows)
-  pub fewer-refused : (polygons peak records : ℕ) → x .answer ≡ Accepted polygons peak records → (rows : List ℤ) → rowsIn rows < peak → (e : ℕ) × (outcome (withRows l rows) .answer ≡ Refused (NoRow e))
+  pub peak-enough : (polygons peak records : ℕ) → x .answer ≡ Accepted polygons peak records → (rows : List ℤ) → peak ≤ rowsIn rows → outcome (withOtherRows l rows) ≡ leftAs (x .answer) (x .polygons) (x .sequences) (x .journal) (zeros rows)
+  pub fewer-refused : (polygons peak records : ℕ) → x .answer ≡ Accepted polygons peak records → (rows : List ℤ) → rowsIn rows < peak → (e : ℕ) × (outcome (withOtherRows l rows) .answer ≡ Refused (NoRow e))
   -- refusal 10 at an edge, exactly when step 1 finds no free row while that edge is treated
   pub lacks-row : (e : ℕ) → x .answer ≡ Refused (NoRow e) → (checked (callOf l) ≡ Passed) × LacksRow (drawingOf (l .list)) (rowsIn (l .rows)) e
   pub no-row : (e : ℕ) → checked (callOf l) ≡ Passed → LacksRow (drawingOf (l .list)) (rowsIn (l .rows)) e → x .answer ≡ Refused (NoRow e)
