@@ -3,15 +3,23 @@
 use mathlib.Core.Path.{_≡_}
 use mathlib.Core.Bool.{true}
 use mathlib.Core.Logic.{_⊎_, inl, inr}
-use Prim.Native.Nat.{ℕ, _≤_, _<_}
+use Prim.Native.Nat.{ℕ, zero, suc, _+_, _-_, _≤_, _<_}
 use native.Mathlib.Omega.{arith}
 use Rattle.laws.proofs.Deciding.{lt-or-le}
 use Rattle.laws.proofs.Pigeonhole.{reached}
-use Rattle.sheet.specs.Edges.{Drawing}
+use Rattle.sheet.specs.Edges.{Drawing, topHeight}
 use Rattle.sheet.specs.Sound.{SweepOrder, Sound}
 use Rattle.sheet.specs.Kinds.{below, above, arriving, leaving, comes}
 use Rattle.sheet.specs.Joining.{Follows}
 use Rattle.sheet.proofs.Following.{next-exists, next-unique, next-one-to-one}
+
+-- tops never fall, from edge to edge and so from any edge to any later one
+rising-tops : (sh : Drawing) → SweepOrder sh → (d e : ℕ) → e + d < sh .edges → topHeight sh e ≤ topHeight sh (e + d)
+rising-tops sh o zero e l = let q : e + 0 ≡ e = omega arith in rw q (omega arith)
+rising-tops sh o (suc d) e l = let q : e + suc d ≡ (e + d) + 1 = omega arith in rw q (omega (arith, rising-tops sh o d e (omega arith), o (e + d) (omega arith)))
+
+pub tops-rise : (sh : Drawing) → SweepOrder sh → (e f : ℕ) → e ≤ f → f < sh .edges → topHeight sh e ≤ topHeight sh f
+tops-rise sh o e f h l = let q : e + (f - e) ≡ f = omega arith in rw q at (rising-tops sh o (f - e) e (omega arith))
 
 pub record Checked (sh : Drawing) : Type 0 where
   -- places of one film and one height are one place, and an edge stays on its film

@@ -1,18 +1,19 @@
 -- What one numbering of a checked list has: from any edge, as many steps back as its sequence number says lead to the edge of its polygon that
--- has 0, its lead; and the lead leaves the polygon's highest place downwards.
+-- has 0, its lead; and the lead leaves the polygon's highest place downwards. Polygons stand in the order of their later top edges, and so the one with
+-- the higher top comes first.
 use mathlib.Core.Bool.{cond}
 use mathlib.Core.Path.{_≡_, refl, ap, sym, _∙_}
 use mathlib.Core.Logic.{⊎-elim}
-use Prim.Native.Nat.{ℕ, zero, suc, _<_}
+use Prim.Native.Nat.{ℕ, zero, suc, max, _≤_, _<_}
 use native.Mathlib.Omega.{arith}
 use borrow.Author.Tests.{lt-ltb}
-use Rattle.laws.proofs.Deciding.{eq-or-ne}
-use Rattle.sheet.specs.Edges.{Drawing}
+use Rattle.laws.proofs.Deciding.{lt-or-le, eq-or-ne}
+use Rattle.sheet.specs.Edges.{Drawing, topHeight}
 use Rattle.sheet.specs.Kinds.{below, leaving, comes, above}
 use Rattle.sheet.specs.Joining.{Follows}
 use Rattle.sheet.specs.Sound.{InOutline, itself, onwards}
 use Rattle.sheet.specs.Numbering.{Numbering}
-use Rattle.sheet.proofs.Checked.{Checked, Joins, joins}
+use Rattle.sheet.proofs.Checked.{Checked, tops-rise, Joins, joins}
 
 module _ {sh : Drawing} (K : Checked sh) {polygon sequence : ℕ → ℕ} {polygons : ℕ} (A : Numbering sh polygon sequence polygons) where
   abbrev J : Joins sh
@@ -60,3 +61,41 @@ module _ {sh : Drawing} (K : Checked sh) {polygon sequence : ℕ → ℕ} {polyg
   pub lead-from-below : (e : ℕ) → e < sh .edges → sequence e ≡ 0 → comes sh leaving e ≡ below
   unfolding comes
   lead-from-below e l z = ap (λ t. cond t below above) (lt-ltb _ _ (falls e l z))
+
+  -- the later of an outline's two top edges, where its lead is known
+  abbrev pub laterTop : ℕ → ℕ
+  laterTop e = max (J .prev e) e
+
+  top-edges-differ : (d e c f : ℕ) → polygon d ≡ polygon e → polygon c ≡ polygon f → polygon e < polygon f → max d e ≡ max c f → ⊥
+  top-edges-differ d e c f p q l m = ⊎-elim
+      (λ h. ⊎-elim (λ k. let x : e ≡ f = omega arith in omega (arith, ap polygon x)) (λ k. let x : e ≡ c = omega arith in omega (arith, ap polygon x)) (lt-or-le c f))
+      (λ h. ⊎-elim (λ k. let x : d ≡ f = omega arith in omega (arith, ap polygon x)) (λ k. let x : d ≡ c = omega arith in omega (arith, ap polygon x)) (lt-or-le c f))
+      (lt-or-le d e)
+
+  -- a smaller polygon number has the later top edge
+  pub later-top : (e f : ℕ) → e < sh .edges → f < sh .edges → sequence e ≡ 0 → sequence f ≡ 0 → polygon e < polygon f → laterTop f < laterTop e
+  later-top e f l m z y p =
+      let a = before-follows e l in
+      let b = before-follows f m in
+      let no : laterTop e < laterTop f → ⊥ = λ h. omega (arith, p, A .later-top-first _ _ _ _ b a y z h) in
+      omega (arith, no, top-edges-differ _ e _ f (sym (A .shared _ _ a)) (sym (A .shared _ _ b)) p)
+
+  -- the later top edge has its top at the lead's tail
+  later-top-height : (e : ℕ) → e < sh .edges → sequence e ≡ 0 → (laterTop e < sh .edges) × (topHeight sh (laterTop e) ≡ sh .height (sh .tail e))
+  later-top-height e l z =
+      let a = before-follows e l in
+      let f = falls e l z in
+      let t = A .top e (J .prev e) l (a .is-edge) z (sym (A .shared _ _ a)) in
+      let j = ap (sh .height) (a .meet) in
+      ⊎-elim
+      (λ h. let m : laterTop e ≡ e = omega arith in (omega arith, rw m (omega (arith, f))))
+      (λ h. let m : laterTop e ≡ J .prev e = omega arith in (omega (arith, m, a .is-edge), rw m (omega (arith, t, j))))
+      (lt-or-le (J .prev e) e)
+
+  -- 01 Points 6.2: the outline with the higher top has the smaller number
+  pub higher-first : (e f : ℕ) → e < sh .edges → f < sh .edges → sequence e ≡ 0 → sequence f ≡ 0 → sh .height (sh .tail f) < sh .height (sh .tail e) → polygon e < polygon f
+  higher-first e f l m z y h =
+      let u = later-top-height e l z in
+      let v = later-top-height f m y in
+      let n : laterTop e ≤ laterTop f → ⊥ = λ k. omega (arith, h, u .1, v .1, tops-rise sh (K .order) (laterTop e) (laterTop f) k (v .0)) in
+      A .later-top-first _ _ _ _ (before-follows e l) (before-follows f m) z y (omega (arith, n))

@@ -2,6 +2,7 @@
 pub mod Signed
 pub mod Shifting
 pub mod Ranks
+pub mod Places
 pub mod Tops
 pub mod Following
 pub mod Checked

@@ -1,6 +1,7 @@
 -- Two numberings of one checked list are equal: sequence numbers, polygon numbers, the number of polygons.
 -- The lead of an outline leaves its highest place downwards, and one edge does that, so both numberings have 0 at the same edges, and then the
--- same sequence numbers everywhere. The leads are ordered by height in both, without a gap, so no polygon number is smaller in one than in the other.
+-- same sequence numbers everywhere. The polygons stand in the order of their later top edges in both, without a gap, so no polygon number is smaller in
+-- one than in the other.
 use mathlib.Core.Path.{_≡_, refl, ap, sym, _∙_}
 use mathlib.Core.Logic.{_⊎_, ⊎-elim}
 use Prim.Native.Nat.{ℕ, zero, suc, _≤_, _<_}
@@ -11,7 +12,7 @@ use Rattle.sheet.specs.Kinds.{leaving}
 use Rattle.sheet.specs.Joining.{Follows}
 use Rattle.sheet.specs.Numbering.{Numbering}
 use Rattle.sheet.proofs.Checked.{Checked, joins}
-use Rattle.sheet.proofs.Leads.{step-back, before-follows, lead, lead-is, lead-keeps, lead-from-below}
+use Rattle.sheet.proofs.Leads.{step-back, before-follows, lead, lead-is, lead-keeps, lead-from-below, later-top}
 
 module _ {sh : Drawing} (K : Checked sh) {polygon sequence polygon′ sequence′ : ℕ → ℕ} {polygons polygons′ : ℕ} (A : Numbering sh polygon sequence polygons) (B : Numbering sh polygon′ sequence′ polygons′) where
   film-kept : (e f : ℕ) → Follows sh e f → sh .film (sh .tail f) ≡ sh .film (sh .tail e)
@@ -44,7 +45,7 @@ module _ {sh : Drawing} (K : Checked sh) {polygon sequence polygon′ sequence�
   at-least zero e l z q = omega arith
   at-least (suc k) e l z q = ⊎-elim (λ h. omega (arith, B .from-one e l)) (later (λ f h y p. at-least k f h y p)) (eq-or-ne k 0)
     where
-      -- the lead of polygon k stands higher, and its number is at least k in both
+      -- the later top edge of polygon k stands later, and its number is at least k in both
       later : ((f : ℕ) → f < sh .edges → sequence f ≡ 0 → polygon f ≡ k → k ≤ polygon′ f) → (k ≡ 0 → ⊥) → suc k ≤ polygon′ e
       later ih h =
           let v = A .no-gap k (omega arith) (omega (arith, A .from-one e l)) in
@@ -53,10 +54,10 @@ module _ {sh : Drawing} (K : Checked sh) {polygon sequence polygon′ sequence�
           let fk : polygon f ≡ k = w .1 ∙ v .2 in
           let y = zero-too K A B f (w .0) (w .2) in
           let x = zero-too K A B e l z in
-          let m = A .highest-first f e (w .0) l (w .2) z (omega arith) in
+          let m = later-top K A f e (w .0) l (w .2) z (omega arith) in
           let i = ih f (w .0) (w .2) fk in
           let ne : polygon′ e ≡ polygon′ f → ⊥ = λ u. omega (arith, ap polygon (B .pairs e f l (w .0) u (x ∙ sym y)), fk, q) in
-          let nl : polygon′ e < polygon′ f → ⊥ = λ u. omega (arith, m, B .highest-first e f l (w .0) x y u) in
+          let nl : polygon′ e < polygon′ f → ⊥ = λ u. omega (arith, m, later-top K B e f l (w .0) x y u) in
           omega (arith, i, ne, nl)
 
 module _ {sh : Drawing} (K : Checked sh) {polygon sequence polygon′ sequence′ : ℕ → ℕ} {polygons polygons′ : ℕ} (A : Numbering sh polygon sequence polygons) (B : Numbering sh polygon′ sequence′ polygons′) where

@@ -1,4 +1,4 @@
--- The refusals 1 to 9 worked by the checks' own definition: one table of calls, each with the number and the place that the answer sheet gives it, and
+-- The refusals 1 to 9 and 16 worked by the checks' own definition: one table of calls, each with the number and the place that the answer sheet gives it, and
 -- one test that is computed over all of it. Where a call has two faults the table says which is answered. 10 is worked with the sweeps, in numbering.
 -- A list of 4,097 edges is said and not written out: it is refused whatever else is lent, and 4,096 such edges get as far as their first fault.
 use Prim.Native.Nat.{ℕ, _*_, _/_}
@@ -17,7 +17,8 @@ use Rattle.sheet.specs.Edges as edges
 use Rattle.sheet.specs.Kinds as kinds
 use Rattle.sheet.specs.Answers as answers
 use Rattle.sheet.specs.Answers.{Call, numberOf, placeOf, checked}
-use Rattle.sheet.proofs.Drawn.{triangle}
+use Rattle.sheet.specs.Amounts.{numbersPerEdge}
+use Rattle.sheet.proofs.Drawn.{triangle, sharedSide, sideTwice}
 
 -- a call, and the answer sheet's number and place for it; 0, 0 where it passes
 record Expected : Type 0 where
@@ -39,7 +40,7 @@ lent list polygons sequences journal = record { list = list; polygons = polygons
 
 -- a list with what it needs: a number an edge, and a journal of 8 an edge
 fitted : List ℤ → Call
-fitted list = lent list (length list / 4) (length list / 4) (8 * (length list / 4))
+fitted list = lent list (length list / numbersPerEdge) (length list / numbersPerEdge) (8 * (length list / numbersPerEdge))
 
 case : Call → ℕ → ℕ → Expected
 case call number place = record { call = call; number = number; place = place }
@@ -52,27 +53,42 @@ calls =
     ∷ case (lent (map pos triangle) 3 4 24) 3 0
     ∷ case (lent (map pos triangle) 3 4 0) 3 0
     ∷ case (lent (map pos triangle) 3 3 23) 4 0
-    ∷ case (fitted (map pos (0 ∷ 0 ∷ 4 ∷ 2 ∷ 4 ∷ 2 ∷ 1 ∷ 1000001 ∷ 1 ∷ 1000001 ∷ 0 ∷ 0 ∷ []))) 5 1
-    ∷ case (fitted (map pos (5 ∷ 5 ∷ 5 ∷ 5 ∷ []))) 6 0
-    ∷ case (fitted (map pos (4 ∷ 2 ∷ 1 ∷ 5 ∷ 0 ∷ 0 ∷ 4 ∷ 2 ∷ 1 ∷ 5 ∷ 0 ∷ 0 ∷ []))) 7 1
-    ∷ case (fitted (map pos (0 ∷ 0 ∷ 4 ∷ 2 ∷ triangle))) 8 1
-    ∷ case (fitted (map pos (0 ∷ 0 ∷ 4 ∷ 2 ∷ 4 ∷ 2 ∷ 1 ∷ 5 ∷ []))) 9 0
+    ∷ case (fitted (map pos (0 ∷ 0 ∷ 4 ∷ 2 ∷ 0 ∷ 4 ∷ 2 ∷ 1 ∷ 1000001 ∷ 0 ∷ 1 ∷ 1000001 ∷ 0 ∷ 0 ∷ 0 ∷ []))) 5 1
+    ∷ case (fitted (map pos (5 ∷ 5 ∷ 5 ∷ 5 ∷ 0 ∷ []))) 6 0
+    ∷ case (fitted (map pos (4 ∷ 2 ∷ 1 ∷ 5 ∷ 0 ∷ 0 ∷ 0 ∷ 4 ∷ 2 ∷ 0 ∷ 1 ∷ 5 ∷ 0 ∷ 0 ∷ 0 ∷ []))) 7 1
+    ∷ case (fitted (map pos (0 ∷ 0 ∷ 4 ∷ 2 ∷ 0 ∷ triangle))) 8 1
+    ∷ case (fitted (map pos (0 ∷ 0 ∷ 4 ∷ 2 ∷ 0 ∷ 4 ∷ 2 ∷ 1 ∷ 5 ∷ 0 ∷ []))) 9 0
     -- the ends of the range, and one past each
-    ∷ case (fitted (negsuc 999999 ∷ negsuc 999999 ∷ pos 1000000 ∷ pos 1000000 ∷ pos 1000000 ∷ pos 1000000 ∷ negsuc 999999 ∷ negsuc 999999 ∷ [])) 0 0
-    ∷ case (fitted (negsuc 1000000 ∷ pos 0 ∷ pos 1 ∷ pos 1 ∷ pos 1 ∷ pos 1 ∷ negsuc 1000000 ∷ pos 0 ∷ [])) 5 0
+    ∷ case (fitted (negsuc 999999 ∷ negsuc 999999 ∷ pos 1000000 ∷ pos 1000000 ∷ pos 0 ∷ pos 1000000 ∷ pos 1000000 ∷ negsuc 999999 ∷ negsuc 999999 ∷ pos 0 ∷ [])) 0 0
+    ∷ case (fitted (negsuc 1000000 ∷ pos 0 ∷ pos 1 ∷ pos 1 ∷ pos 0 ∷ pos 1 ∷ pos 1 ∷ negsuc 1000000 ∷ pos 0 ∷ pos 0 ∷ [])) 5 0
     -- 5 and 6 in one edge, 5 and 7, 6 and 7; 7 in an edge before one with 5; 6 in an edge after one with 8
-    ∷ case (fitted (map pos (1000001 ∷ 5 ∷ 1000001 ∷ 5 ∷ []))) 5 0
-    ∷ case (fitted (map pos (4 ∷ 2 ∷ 1 ∷ 5 ∷ 0 ∷ 0 ∷ 1000001 ∷ 2 ∷ []))) 5 1
-    ∷ case (fitted (map pos (4 ∷ 2 ∷ 1 ∷ 5 ∷ 2 ∷ 2 ∷ 2 ∷ 2 ∷ []))) 6 1
-    ∷ case (fitted (map pos (4 ∷ 2 ∷ 1 ∷ 5 ∷ 0 ∷ 0 ∷ 4 ∷ 2 ∷ 1 ∷ 1000001 ∷ 0 ∷ 0 ∷ []))) 7 1
-    ∷ case (fitted (map pos (0 ∷ 0 ∷ 4 ∷ 2 ∷ 0 ∷ 0 ∷ 4 ∷ 2 ∷ 5 ∷ 5 ∷ 5 ∷ 5 ∷ []))) 6 2
+    ∷ case (fitted (map pos (1000001 ∷ 5 ∷ 1000001 ∷ 5 ∷ 0 ∷ []))) 5 0
+    ∷ case (fitted (map pos (4 ∷ 2 ∷ 1 ∷ 5 ∷ 0 ∷ 0 ∷ 0 ∷ 1000001 ∷ 2 ∷ 0 ∷ []))) 5 1
+    ∷ case (fitted (map pos (4 ∷ 2 ∷ 1 ∷ 5 ∷ 0 ∷ 2 ∷ 2 ∷ 2 ∷ 2 ∷ 0 ∷ []))) 6 1
+    ∷ case (fitted (map pos (4 ∷ 2 ∷ 1 ∷ 5 ∷ 0 ∷ 0 ∷ 0 ∷ 4 ∷ 2 ∷ 0 ∷ 1 ∷ 1000001 ∷ 0 ∷ 0 ∷ 0 ∷ []))) 7 1
+    ∷ case (fitted (map pos (0 ∷ 0 ∷ 4 ∷ 2 ∷ 0 ∷ 0 ∷ 0 ∷ 4 ∷ 2 ∷ 0 ∷ 5 ∷ 5 ∷ 5 ∷ 5 ∷ 0 ∷ []))) 6 2
+    -- a film below the range and past it, the largest and the smallest number of 32 bits; the last film is accepted
+    ∷ case (fitted (pos 0 ∷ pos 0 ∷ pos 1 ∷ pos 1 ∷ pos 0 ∷ pos 1 ∷ pos 1 ∷ pos 0 ∷ pos 0 ∷ negsuc 0 ∷ [])) 16 1
+    ∷ case (fitted (map pos (0 ∷ 0 ∷ 1 ∷ 1 ∷ 256 ∷ []))) 16 0
+    ∷ case (fitted (map pos (0 ∷ 0 ∷ 1 ∷ 1 ∷ 2147483647 ∷ []))) 16 0
+    ∷ case (fitted (pos 0 ∷ pos 0 ∷ pos 1 ∷ pos 1 ∷ negsuc 2147483647 ∷ [])) 16 0
+    ∷ case (fitted (map pos (0 ∷ 0 ∷ 1 ∷ 1 ∷ 255 ∷ 1 ∷ 1 ∷ 0 ∷ 0 ∷ 255 ∷ []))) 0 0
+    -- 5 and 16 in one edge, 16 and 6, 16 and 7
+    ∷ case (fitted (map pos (1000001 ∷ 5 ∷ 1 ∷ 5 ∷ 256 ∷ []))) 5 0
+    ∷ case (fitted (map pos (5 ∷ 5 ∷ 5 ∷ 5 ∷ 256 ∷ []))) 16 0
+    ∷ case (fitted (map pos (4 ∷ 2 ∷ 1 ∷ 5 ∷ 0 ∷ 0 ∷ 0 ∷ 4 ∷ 2 ∷ 256 ∷ []))) 16 1
+    -- a side that two films share, and that one film has twice; an edge that arrives where only another film leaves; 7 whatever the films
+    ∷ case (fitted (map pos sharedSide)) 0 0
+    ∷ case (fitted (map pos sideTwice)) 8 3
+    ∷ case (fitted (map pos (0 ∷ 0 ∷ 1 ∷ 1 ∷ 0 ∷ 1 ∷ 1 ∷ 0 ∷ 0 ∷ 1 ∷ []))) 9 0
+    ∷ case (fitted (map pos (4 ∷ 2 ∷ 1 ∷ 5 ∷ 0 ∷ 0 ∷ 0 ∷ 4 ∷ 2 ∷ 1 ∷ []))) 7 1
     -- 4,096 edges pass check 2
-    ∷ case (fitted (replicate (4 * 4096) (pos 0))) 6 0
+    ∷ case (fitted (replicate (numbersPerEdge * 4096) (pos 0))) 6 0
     ∷ []
 
 record AllWorked : Type 0 where
   right-all : allRight calls ≡ true
-  too-many : (polygons sequences journal : ℕ) → answers-with (checked (lent (replicate (4 * 4097) (pos 0)) polygons sequences journal)) 2 0 ≡ true
+  too-many : (polygons sequences journal : ℕ) → answers-with (checked (lent (replicate (numbersPerEdge * 4097) (pos 0)) polygons sequences journal)) 2 0 ≡ true
 
 all-worked : AllWorked
 unfolding
@@ -91,10 +107,12 @@ unfolding
     points.isSame
     points.within
     points.inRange
+    points.isFilm
     points.isUp
     points.topOf
     ranks.shift
     ranks.rank
+    ranks.placeOn
     edges.edgeAt
     edges.edgesIn
     edges.drawingOf
@@ -105,6 +123,7 @@ unfolding
     answers.listsDiffer
     answers.journalShort
     answers.pastRange
+    answers.filmPastRange
     answers.equalEnds
     answers.topFalls
     answers.sameKind

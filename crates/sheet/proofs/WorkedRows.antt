@@ -1,4 +1,4 @@
--- Demand 3 in figures: C, L, the whole part of log2 L and the rows of three sheets, each with its polygon numbers. They are computed, and demand 3 has
+-- Demand 3 in figures: C, L, the whole part of log2 L and the rows of four sheets, each with its polygon numbers. They are computed, and demand 3 has
 -- no others (RowsEnough).
 use Prim.Native.Nat.{ℕ, _<_}
 use mathlib.Core.Path.{_≡_, refl, ap, _∙_}
@@ -13,7 +13,7 @@ use Rattle.sheet.specs.Edges.{Drawing, drawingOf}
 use Rattle.sheet.specs.Rank as ranks
 use Rattle.sheet.specs.Passing as passed
 use Rattle.sheet.specs.Passing.{Enough}
-use Rattle.sheet.proofs.Drawn.{triangle, square, touching}
+use Rattle.sheet.proofs.Drawn.{triangle, square, touching, sharedSide}
 use Rattle.sheet.proofs.RowsEnough.{mostPassing, longestOutline, rowsEnough, rows-enough, enough-is}
 
 abbrev drawn : List ℕ → Drawing
@@ -38,11 +38,13 @@ pub record Table : Type 0 where
   pub of-triangle : Figures triangle (1 ∷ 1 ∷ 1 ∷ []) 2 3 1 2
   pub of-square : Figures square (1 ∷ 1 ∷ 1 ∷ 1 ∷ []) 2 4 2 4
   pub of-touching : Figures touching (2 ∷ 2 ∷ 1 ∷ 2 ∷ 2 ∷ 1 ∷ 1 ∷ []) 4 4 2 8
+  pub of-shared-side : Figures sharedSide (2 ∷ 1 ∷ 2 ∷ 2 ∷ 2 ∷ 1 ∷ 1 ∷ 1 ∷ []) 4 4 2 8
 
 pub table : Table
-unfolding mostPassing longestOutline rowsEnough wholeLog2 passed.passing passed.outlineSize counting.largest counting.count counting.first counting.first-from drawingOf edges.edgesIn edges.edgeAt ranks.rank ranks.shift
+unfolding mostPassing longestOutline rowsEnough wholeLog2 passed.passing passed.outlineSize counting.largest counting.count counting.first counting.first-from drawingOf edges.edgesIn edges.edgeAt ranks.rank ranks.shift ranks.placeOn
 table = record {
   of-triangle = figures _ _ (omega arith) refl refl refl refl;
   of-square = figures _ _ (omega arith) refl refl refl refl;
   of-touching = figures _ _ (omega arith) refl refl refl refl;
+  of-shared-side = figures _ _ (omega arith) refl refl refl refl;
 }

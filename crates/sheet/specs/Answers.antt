@@ -13,6 +13,7 @@ use Rattle.sheet.specs.declared.Refusal.the-variants.{
   ListsDiffer,
   JournalShort,
   PastRange,
+  FilmPastRange,
   EqualEnds,
   TopFalls,
   Repeated,
@@ -23,7 +24,7 @@ use Rattle.sheet.specs.declared.Check.{Check}
 use Rattle.sheet.specs.declared.Check.the-variants as check
 use Rattle.sheet.specs.declared.Answer.{Answer}
 use Rattle.sheet.specs.declared.Answer.the-variants as answer
-use Rattle.sheet.specs.Points.{inRange, isSame, isBelow, topOf}
+use Rattle.sheet.specs.Points.{inRange, isFilm, isSame, isBelow, topOf}
 use Rattle.sheet.specs.Edges.{Drawing, edgeAt, edgesIn, drawingOf}
 use Rattle.sheet.specs.Kinds.{Way, arriving, leaving, From, below, above, endOf, comes, numberAt}
 use Rattle.sheet.specs.Amounts.{numbersPerEdge, journalNumbersPerEdge, mostEdges}
@@ -42,6 +43,7 @@ numberOf TooMany = 2
 numberOf ListsDiffer = 3
 numberOf JournalShort = 4
 numberOf (PastRange e) = 5
+numberOf (FilmPastRange e) = 16
 numberOf (EqualEnds e) = 6
 numberOf (TopFalls e) = 7
 numberOf (Repeated e) = 8
@@ -55,6 +57,7 @@ placeOf TooMany = 0
 placeOf ListsDiffer = 0
 placeOf JournalShort = 0
 placeOf (PastRange e) = e
+placeOf (FilmPastRange e) = e
 placeOf (EqualEnds e) = e
 placeOf (TopFalls e) = e
 placeOf (Repeated e) = e
@@ -81,6 +84,10 @@ journalShort c = ltb (c .journal) (journalNumbersPerEdge * edgesIn (c .list))
 unfoldable pub pastRange : List ℤ → ℕ → Bool
 pastRange s e = not (inRange (edgeAt s e .tail) && inRange (edgeAt s e .head))
 
+-- 16: the film out of its range
+unfoldable pub filmPastRange : List ℤ → ℕ → Bool
+filmPastRange s e = not (isFilm (edgeAt s e .film))
+
 -- 6: both ends are one point
 unfoldable pub equalEnds : List ℤ → ℕ → Bool
 equalEnds s e = isSame (edgeAt s e .tail) (edgeAt s e .head)
@@ -90,12 +97,12 @@ unfoldable pub topFalls : List ℤ → ℕ → Bool
 topFalls s zero = false
 topFalls s (suc e) = isBelow (topOf (edgeAt s (suc e))) (topOf (edgeAt s e))
 
--- 5, 6 and 7 are tried edge by edge, in that order at an edge
+-- 5, 16, 6 and 7 are tried edge by edge, in that order at an edge
 abbrev pub edgeFault : List ℤ → ℕ → Bool
-edgeFault s e = pastRange s e || (equalEnds s e || topFalls s e)
+edgeFault s e = pastRange s e || (filmPastRange s e || (equalEnds s e || topFalls s e))
 
 abbrev pub faultOf : List ℤ → ℕ → Refusal
-faultOf s e = cond (pastRange s e) (PastRange e) (cond (equalEnds s e) (EqualEnds e) (TopFalls e))
+faultOf s e = cond (pastRange s e) (PastRange e) (cond (filmPastRange s e) (FilmPastRange e) (cond (equalEnds s e) (EqualEnds e) (TopFalls e)))
 
 abbrev pub sameFrom : From → From → Bool
 sameFrom below below = true
@@ -127,7 +134,7 @@ refuseIf false r rest = rest
 abbrev pub refuseFirst : (ℕ → Bool) → ℕ → (ℕ → Refusal) → Check → Check
 refuseFirst test n refusal rest = refuseIf (ltb (first test n) n) (refusal (first test n)) rest
 
--- the order under the table: 1 to 4; the first edge with 5, 6 or 7; 8 over the whole list; 9 over the whole list
+-- the order under the table: 1 to 4; the first edge with 5, 16, 6 or 7; 8 over the whole list; 9 over the whole list
 unfoldable pub checked : Call → Check
 checked c =
     refuseIf (notWhole c) NotWhole

@@ -1,19 +1,20 @@
 -- A list of numbers as edges, and as the sweep sees it: places, compared by their heights.
-use Prim.Native.Nat.{ℕ, _+_, _*_, _/_, min, max, _≤_, _<_}
+use Prim.Native.Nat.{ℕ, _+_, _*_, _/_, _%_, min, max, _≤_, _<_}
 use mathlib.Core.Bool.{Bool, false}
 use mathlib.Core.List.{List}
 use lib.IntN.{ℤ, pos}
 use lib.ListN.{getD, length}
 use Rattle.sheet.specs.declared.Edge.{Edge}
-use Rattle.sheet.specs.Rank.{rank}
-use Rattle.sheet.specs.Amounts.{numbersPerEdge}
+use Rattle.sheet.specs.Rank.{placeOn}
+use Rattle.sheet.specs.Amounts.{numbersPerEdge, films}
 
--- 01 Points 1.1: the four numbers of an edge in their order
+-- 01 Points 1.1 and 02 M-100: the five numbers of an edge in their order
 unfoldable pub edgeAt : List ℤ → ℕ → Edge
 edgeAt s e =
     record {
       tail = record { x = getD s (numbersPerEdge * e) (pos 0); y = getD s (numbersPerEdge * e + 1) (pos 0) };
       head = record { x = getD s (numbersPerEdge * e + 2) (pos 0); y = getD s (numbersPerEdge * e + 3) (pos 0) };
+      film = getD s (numbersPerEdge * e + 4) (pos 0);
     }
 
 unfoldable pub edgesIn : List ℤ → ℕ
@@ -29,10 +30,17 @@ pub record Drawing : Type 0 where
   pub film : ℕ → ℕ
   pub apart : ℕ → Bool
 
--- In document 01 a place is a point, by its rank, which is its height too; there is one film, and no place is apart.
+-- An edge's ends are places of its film. A place's height is the rank of its point, and no place is apart.
 unfoldable pub drawingOf : List ℤ → Drawing
 drawingOf s =
-    record { edges = edgesIn s; tail = λ e. rank (edgeAt s e .tail); head = λ e. rank (edgeAt s e .head); height = λ p. p; film = λ p. 0; apart = λ p. false }
+    record {
+      edges = edgesIn s;
+      tail = λ e. placeOn (edgeAt s e .film) (edgeAt s e .tail);
+      head = λ e. placeOn (edgeAt s e .film) (edgeAt s e .head);
+      height = λ p. p / films;
+      film = λ p. p % films;
+      apart = λ p. false;
+    }
 
 -- how high an edge's top and bottom lie
 abbrev pub topHeight : Drawing → ℕ → ℕ

@@ -1,4 +1,4 @@
--- Points and edges: the range, the order of points, an edge's two ends. Each is a test or a function that computes, and the functions of the point
+-- Points and edges: the ranges, the order of points, an edge's two ends. Each is a test or a function that computes, and the functions of the point
 -- and edge types are proved equal to it. "01 Points 2.1" in a comment names the first sentence of the second item under "Points, edges, joins".
 use mathlib.Core.Bool.{Bool, false, cond, _&&_}
 use lib.Dec.{eqb}
@@ -6,6 +6,7 @@ use lib.IntN.{ℤ, pos, negsuc}
 use lib.Signed.{ltZ, leZ}
 use Rattle.sheet.specs.declared.Point.{Point}
 use Rattle.sheet.specs.declared.Edge.{Edge}
+use Rattle.sheet.specs.Amounts.{films}
 
 unfoldable pub sameZ : ℤ → ℤ → Bool
 sameZ (pos a) (pos b) = eqb a b
@@ -26,6 +27,10 @@ within z = leZ (negsuc 999999) z && leZ z (pos 1000000)
 
 unfoldable pub inRange : Point → Bool
 inRange p = within (p .x) && within (p .y)
+
+-- 02 M-100: the range of a film
+unfoldable pub isFilm : ℤ → Bool
+isFilm z = leZ (pos 0) z && ltZ z (pos films)
 
 -- 01 Points 3.1: an up edge has its head higher than its tail, any other is a down edge
 unfoldable pub isUp : Edge → Bool

@@ -3,7 +3,7 @@
 ghost use mathlib.Core.Path.{_≡_};
 ghost use Prim.Native.Nat.{_+_, _*_, _<_};
 ghost use lib.ListN.{length};
-ghost use Rattle.sheet.specs.Points.{isBelow, isSame, within, inRange, isUp, topOf, bottomOf};
+ghost use Rattle.sheet.specs.Points.{isBelow, isSame, within, inRange, isFilm, isUp, topOf, bottomOf};
 ghost use Rattle.sheet.specs.Rank.{shift, rank};
 ghost use Rattle.sheet.specs.Edges.{edgeAt};
 ghost use Rattle.sheet.specs.Answers.{numberOf, placeOf};
@@ -78,11 +78,15 @@ fn shifted(c: i32) -> u32
 pub struct Edge {
     pub tail: Point,
     pub head: Point,
+    pub film: i32,
 }
 
 impl Edge {
-    // How many numbers an edge has in a list: tail x, tail y, head x, head y.
-    pub const NUMBERS: usize = 4;
+    // How many numbers an edge has in a list: tail x, tail y, head x, head y, film.
+    pub const NUMBERS: usize = 5;
+
+    // How many films there are, from 0 on.
+    pub const FILMS: i32 = 256;
 
     // The most edges that a list holds.
     pub const MOST: usize = 4096;
@@ -92,7 +96,7 @@ impl Edge {
 
     // The edge at a place of a list.
     pub fn at(edges: &[i32], place: usize) -> Edge
-        requires { ⌜ numbersPerEdge * place + 3 < length (now edges) ⌝ }
+        requires { ⌜ numbersPerEdge * place + 4 < length (now edges) ⌝ }
         ensures { λ r. ⌜ r ≡ edgeAt (now (edges .entry)) place ⌝ }
     {
         let first = Edge::NUMBERS * place;
@@ -104,7 +108,16 @@ impl Edge {
             x: edges[first + 2],
             y: edges[first + 3],
         };
-        Edge { tail, head }
+        let film = edges[first + 4];
+        Edge { tail, head, film }
+    }
+
+    // Whether the film is one of those there are.
+    pub fn film_in_range(self) -> bool
+        ensures { λ r. ⌜ r ≡ isFilm (self .film) ⌝ }
+    {
+        let film = self.film;
+        0 <= film && film < Edge::FILMS
     }
 
     // Whether the head is the higher end.
@@ -142,6 +155,7 @@ pub enum Refusal {
     ListsDiffer,
     JournalShort,
     PastRange(u32),
+    FilmPastRange(u32),
     EqualEnds(u32),
     TopFalls(u32),
     Repeated(u32),
@@ -159,6 +173,7 @@ impl Refusal {
             Refusal::ListsDiffer => 3,
             Refusal::JournalShort => 4,
             Refusal::PastRange(_) => 5,
+            Refusal::FilmPastRange(_) => 16,
             Refusal::EqualEnds(_) => 6,
             Refusal::TopFalls(_) => 7,
             Refusal::Repeated(_) => 8,
@@ -176,6 +191,7 @@ impl Refusal {
             Refusal::ListsDiffer => 0,
             Refusal::JournalShort => 0,
             Refusal::PastRange(e) => e,
+            Refusal::FilmPastRange(e) => e,
             Refusal::EqualEnds(e) => e,
             Refusal::TopFalls(e) => e,
             Refusal::Repeated(e) => e,

@@ -1,4 +1,4 @@
--- `Edge::at` meets its contract: four numbers of the slice, each read back as it stands.
+-- `Edge::at` meets its contract: five numbers of the slice, each read back as it stands.
 use Rattle.sheet.specs.Edges.{edgeAt}
 use Rattle.sheet.proofs.Signed.{read-back}
 use borrow.Author.Needs.{needs}
@@ -9,10 +9,11 @@ returns : tie.Need-returns
 unfolding edgeAt
 returns c =
     rw (
-      read-back _ (c .before .before .before .t8 .given),
-      read-back _ (c .before .before .t12 .given),
-      read-back _ (c .before .t122 .given),
-      read-back _ (c .t82 .given),
+      read-back _ (c .before .before .before .before .film .given),
+      read-back _ (c .before .before .before .t13 .given),
+      read-back _ (c .before .before .t132 .given),
+      read-back _ (c .before .film2 .given),
+      read-back _ (c .film3 .given),
     )
 
 pub at-spec : {M : Type 1} → statement M
@@ -20,4 +21,4 @@ at-spec =
     tie.close
     (tie.spec
     (search needs) (search needs) (search needs) (search needs) (search needs) (search needs) (search needs) (search needs) (search needs)
-    (search needs) (search needs) (search needs) returns)
+    (search needs) (search needs) (search needs) (search needs) (search needs) (search needs) returns)
