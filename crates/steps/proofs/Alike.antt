@@ -1,17 +1,18 @@
 -- Two rooms that hold the same run alike: whatever places, tables and journals are made of, as long as places compare alike, rows look alike after
 -- each write and records are kept, every step in one room has its like in the other. So what is shown of plain tables holds of slices. The first run
--- looks only as far as rows have been opened, and there its reach is its peak; the second may look further, at rows that were never opened.
+-- looks only as far as rows have been opened, and there its reach is its peak; the second may look further, at rows that were never opened. A place of the
+-- first has a film, edges and rows keep to one, and so a row may say its film once.
 use mathlib.Core.Path.{_≡_, refl, sym, ap, _∙_, subst}
 use mathlib.Core.Bool.{Bool, true, false, not, _&&_, cond}
 use mathlib.Core.Logic.{⊎-elim}
 use Prim.Native.Nat.{ℕ, zero, suc, _+_, max, _≤_, _<_}
 use native.Mathlib.Omega.{arith}
 use lib.Dec.{eqb, ltb, leb}
-use lib.IntN.{pos}
+use lib.IntN.{ℤ, pos}
 use borrow.Author.Tests.{ltb-true, lt-ltb, le-ltb}
 use Rattle.laws.proofs.Deciding.{lt-or-le, not-both, both-true}
 use Rattle.laws.specs.Counting.{count, first}
-use Rattle.laws.proofs.First.{first-le, first-least, first-none}
+use Rattle.laws.proofs.First.{first-le, first-least, first-none, first-holds}
 use Rattle.laws.proofs.Further.{first-further, first-no-further, count-further}
 use Rattle.laws.proofs.Lowest.{count-by-lowest}
 use Rattle.steps.specs.declared.Side.{Side}
@@ -59,11 +60,12 @@ module _ {P P′ : Type 0} (R : P → P′ → Type 0) where
     pub level : row .level ≡ row′ .level
     pub branch : (s : Side) → AlikeBranch (on s (row .branch)) (on s (row′ .branch))
 
-  pub record AlikeEdge (most : ℕ) (e : LevelEdge P) (e′ : LevelEdge P′) : Type 0 where
+  pub record AlikeEdge (film : P → ℤ) (most : ℕ) (e : LevelEdge P) (e′ : LevelEdge P′) : Type 0 where
     pub name : e .name ≡ e′ .name
     pub small : e .name ≤ most
     pub tail : R (e .tail) (e′ .tail)
     pub head : R (e .head) (e′ .head)
+    pub one-film : film (e .tail) ≡ film (e .head)
     pub length : e .length ≡ e′ .length
     pub apart : e .apart ≡ e′ .apart
 
@@ -78,14 +80,18 @@ pub record SmallRecord (most : ℕ) (entry : Record) : Type 0 where
   pub chain : SmallChain most (entry .chain)
 
 -- The rooms match: R relates places, Rows relates tables in their first k rows, Kept journals in their first k records. Names up to `most` are kept.
--- The second room is looked at as far as `looked` from the start; rows that far which are not among the first k are not in use.
-pub record Match {P T J P′ T′ J′ : Type 0} (room : Room P T J) (room′ : Room P′ T′ J′) (R : P → P′ → Type 0) (Rows : ℕ → T → T′ → Type 0) (Kept : ℕ → J → J′ → Type 0) (most looked : ℕ) : Type 0 where
+-- The second room is looked at as far as `looked` from the start; rows that far which are not among the first k are not in use. A tip is moved only to a
+-- place of the row's film.
+pub record Match {P T J P′ T′ J′ : Type 0} (room : Room P T J) (room′ : Room P′ T′ J′) (R : P → P′ → Type 0) (film : P → ℤ) (Rows : ℕ → T → T′ → Type 0) (Kept : ℕ → J → J′ → Type 0) (most looked : ℕ) : Type 0 where
+  pub same-film : {p q : P} → room .places .same p q ≡ true → film p ≡ film q
+  pub row-film : (t : T) (r : ℕ) → film (room .table .look t r .branch .falling .tip) ≡ film (room .table .look t r .branch .rising .tip)
+  pub opened-film : {k : ℕ} {t : T} {t′ : T′} → Rows k t t′ → (r level : ℕ) (p : P) → r < room .rows → (s : Side) → film (on s (room .table .look (room .table .opened t r level p) r .branch) .tip) ≡ film p
   pub same : {p q : P} {p′ q′ : P′} → R p p′ → R q q′ → room .places .same p q ≡ room′ .places .same p′ q′
   pub below : {p q : P} {p′ q′ : P′} → R p p′ → R q q′ → room .places .below p q ≡ room′ .places .below p′ q′
   pub look : {k : ℕ} {t : T} {t′ : T′} → Rows k t t′ → (r : ℕ) → r < k → AlikeRow R (room .table .look t r) (room′ .table .look t′ r)
   pub unopened : {k : ℕ} {t : T} {t′ : T′} → Rows k t t′ → (r : ℕ) → k ≤ r → r < looked → room′ .table .look t′ r .used ≡ false
   pub opened : {k : ℕ} {t : T} {t′ : T′} {p : P} {p′ : P′} → Rows k t t′ → R p p′ → (r level : ℕ) → r ≤ k → r < room .rows → Rows (max k (r + 1)) (room .table .opened t r level p) (room′ .table .opened t′ r level p′)
-  pub moved : {k : ℕ} {t : T} {t′ : T′} {p : P} {p′ : P′} → Rows k t t′ → R p p′ → (r : ℕ) (s : Side) (n : ℕ) → r < k → Rows k (room .table .moved t r s p n) (room′ .table .moved t′ r s p′ n)
+  pub moved : {k : ℕ} {t : T} {t′ : T′} {p : P} {p′ : P′} → Rows k t t′ → R p p′ → (r : ℕ) (s : Side) (n : ℕ) → r < k → film (on s (room .table .look t r .branch) .tip) ≡ film p → Rows k (room .table .moved t r s p n) (room′ .table .moved t′ r s p′ n)
   pub finished : {k : ℕ} {t : T} {t′ : T′} → Rows k t t′ → (r : ℕ) (s : Side) → r < k → Rows k (room .table .finished t r s) (room′ .table .finished t′ r s)
   pub freed : {k : ℕ} {t : T} {t′ : T′} → Rows k t t′ → (r : ℕ) → r < k → Rows k (room .table .freed t r) (room′ .table .freed t′ r)
   pub written : {j : J} {j′ : J′} {k : ℕ} {entry : Record} → Kept k j j′ → k < room .records → SmallRecord most entry → Kept (k + 1) (room .journal .written j k entry) (room′ .journal .written j′ k entry)
@@ -93,7 +99,7 @@ pub record Match {P T J P′ T′ J′ : Type 0} (room : Room P T J) (room′ : 
   pub records : room .records ≡ room′ .records
   pub names : room .records ≤ most
 
-module _ {P T J P′ T′ J′ : Type 0} {room : Room P T J} {room′ : Room P′ T′ J′} {R : P → P′ → Type 0} {Rows : ℕ → T → T′ → Type 0} {Kept : ℕ → J → J′ → Type 0} {most looked : ℕ} (M : Match room room′ R Rows Kept most looked) where
+module _ {P T J P′ T′ J′ : Type 0} {room : Room P T J} {room′ : Room P′ T′ J′} {R : P → P′ → Type 0} {film : P → ℤ} {Rows : ℕ → T → T′ → Type 0} {Kept : ℕ → J → J′ → Type 0} {most looked : ℕ} (M : Match room room′ R film Rows Kept most looked) where
   -- two states alike in every row that was ever open: the peak is at most d more than the records, and at least k; it is the first one's reach
   pub record Alike (d k : ℕ) (s : State T J) (s′ : State T′ J′) : Type 0 where
     pub rows : Rows (s .reach) (s .rows) (s′ .rows)
@@ -210,12 +216,22 @@ module _ {P T J P′ T′ J′ : Type 0} {room : Room P T J} {room′ : Room P�
   unfolding up.open-row
   opened-below s level p = omega arith
 
+  -- and its tips are of the place's film
+  open-film : {k : ℕ} {s : State T J} {s′ : State T′ J′} → Alike 0 k s s′ → (level : ℕ) (p : P) (side : Side) → up.lowestFree room s < room .rows → film (on side (up.look room (up.open-row room s (up.lowestFree room s) level p) (up.lowestFree room s) .branch) .tip) ≡ film p
+  unfolding up.open-row
+  open-film {s = s} A level p side l = M .opened-film (A .rows) (up.lowestFree room s) level p l side
+
   open-records : (s : State T J) (r level : ℕ) (p : P) → up.open-row room s r level p .records ≡ s .records
   unfolding up.open-row
   open-records s r level p = refl
 
+  -- an edge's two ends are of one film
+  ends-film : (side : Side) {e : LevelEdge P} {e′ : LevelEdge P′} → AlikeEdge R film most e e′ → film (bottom side e) ≡ film (top side e)
+  ends-film Rising h = h .one-film
+  ends-film Falling h = sym (h .one-film)
+
   -- steps 2 and 3
-  chain-record-alike : (level : ℕ) (side : Side) {row : Row P} {row′ : Row P′} {e : LevelEdge P} {e′ : LevelEdge P′} (r : ℕ) → AlikeRow R row row′ → AlikeEdge R most e e′ → up.chainRecord room level side row e r ≡ up.chainRecord room′ level side row′ e′ r
+  chain-record-alike : (level : ℕ) (side : Side) {row : Row P} {row′ : Row P′} {e : LevelEdge P} {e′ : LevelEdge P′} (r : ℕ) → AlikeRow R row row′ → AlikeEdge R film most e e′ → up.chainRecord room level side row e r ≡ up.chainRecord room′ level side row′ e′ r
   chain-record-alike level side r a h = λ i.
       record {
         level = level;
@@ -224,14 +240,14 @@ module _ {P T J P′ T′ J′ : Type 0} {room : Room P T J} {room′ : Room P�
         offset = up.signed side (a .branch side .length i + on (otherSide side) (h .length i));
       }
 
-  longer-alike : (side : Side) {row : Row P} {row′ : Row P′} {e : LevelEdge P} {e′ : LevelEdge P′} → AlikeRow R row row′ → AlikeEdge R most e e′ → up.longer room side row e ≡ up.longer room′ side row′ e′
+  longer-alike : (side : Side) {row : Row P} {row′ : Row P′} {e : LevelEdge P} {e′ : LevelEdge P′} → AlikeRow R row row′ → AlikeEdge R film most e e′ → up.longer room side row e ≡ up.longer room′ side row′ e′
   longer-alike side a h = λ i. a .branch side .length i + h .length i .falling + h .length i .rising
 
-  top-alike : (side : Side) {e : LevelEdge P} {e′ : LevelEdge P′} → AlikeEdge R most e e′ → R (top side e) (top side e′)
+  top-alike : (side : Side) {e : LevelEdge P} {e′ : LevelEdge P′} → AlikeEdge R film most e e′ → R (top side e) (top side e′)
   top-alike Rising h = h .head
   top-alike Falling h = h .tail
 
-  bottom-alike : (side : Side) {e : LevelEdge P} {e′ : LevelEdge P′} → AlikeEdge R most e e′ → R (bottom side e) (bottom side e′)
+  bottom-alike : (side : Side) {e : LevelEdge P} {e′ : LevelEdge P′} → AlikeEdge R film most e e′ → R (bottom side e) (bottom side e′)
   bottom-alike Rising h = h .tail
   bottom-alike Falling h = h .head
 
@@ -252,9 +268,9 @@ module _ {P T J P′ T′ J′ : Type 0} {room : Room P T J} {room′ : Room P�
         since = A .since;
       }
 
-  move-alike : {k : ℕ} {s : State T J} {s′ : State T′ J′} {p : P} {p′ : P′} {n n′ : ℕ} → Alike 0 k s s′ → (r : ℕ) (side : Side) → R p p′ → n ≡ n′ → r < s .reach → Alike 0 k (up.move room s r side p n) (up.move room′ s′ r side p′ n′)
+  move-alike : {k : ℕ} {s : State T J} {s′ : State T′ J′} {p : P} {p′ : P′} {n n′ : ℕ} → Alike 0 k s s′ → (r : ℕ) (side : Side) → R p p′ → n ≡ n′ → r < s .reach → film (on side (up.look room s r .branch) .tip) ≡ film p → Alike 0 k (up.move room s r side p n) (up.move room′ s′ r side p′ n′)
   unfolding up.move
-  move-alike A r side h e l = rw (← e) (with-rows (M .moved (A .rows) h r side _ l) A)
+  move-alike A r side h e l f = rw (← e) (with-rows (M .moved (A .rows) h r side _ l f) A)
 
   -- a choice between states, made alike
   pick-alike : {d k : ℕ} (t t′ : Bool) → t ≡ t′ → {x y : State T J} {x′ y′ : State T′ J′} → (t ≡ true → Alike d k x x′) → (t ≡ false → Alike d k y y′) → Alike d k (cond t x y) (cond t′ x′ y′)
@@ -271,18 +287,18 @@ module _ {P T J P′ T′ J′ : Type 0} {room : Room P T J} {room′ : Room P�
   unfolding up.write
   write-reach s entry = refl
 
-  attach-alike : {k : ℕ} {s : State T J} {s′ : State T′ J′} → Alike 1 k s s′ → (level : ℕ) → level ≤ levels → (side : Side) {e : LevelEdge P} {e′ : LevelEdge P′} → AlikeEdge R most e e′ → (r : ℕ) → r < s .reach → r ≤ s .records → Alike 0 k (up.attach room s level side e r) (up.attach room′ s′ level side e′ r)
-  unfolding up.attach
-  attach-alike {k} {s} {s′} A level lv side {e} {e′} h r rl rr =
+  attach-alike : {k : ℕ} {s : State T J} {s′ : State T′ J′} → Alike 1 k s s′ → (level : ℕ) → level ≤ levels → (side : Side) {e : LevelEdge P} {e′ : LevelEdge P′} → AlikeEdge R film most e e′ → (r : ℕ) → r < s .reach → r ≤ s .records → film (on side (up.look room s r .branch) .tip) ≡ film (bottom side e) → Alike 0 k (up.attach room s level side e r) (up.attach room′ s′ level side e′ r)
+  unfolding up.attach up.write
+  attach-alike {k} {s} {s′} A level lv side {e} {e′} h r rl rr f =
       let a = M .look (A .rows) r rl in
       let b = chain-record-alike level side r a h in
       let n = longer-alike side a h in
       pick-alike _ _ (λ i. ltb (A .records i) (M .records i) && leb (n i) mostLength)
       (λ q. let l = ltb-true _ _ (both-true (ltb (s .records) (room .records)) _ q .0) in
-      move-alike (write-alike A b l (record { level = lv; name = h .small; chain = omega (arith, rr, l, M .names) })) r side (top-alike side h) n (omega (arith, rl, write-reach s (up.chainRecord room level side (up.look room s r) e r))))
+      move-alike (write-alike A b l (record { level = lv; name = h .small; chain = omega (arith, rr, l, M .names) })) r side (top-alike side h) n (omega (arith, rl, write-reach s (up.chainRecord room level side (up.look room s r) e r))) (f ∙ ends-film side h))
       (λ q. overrun A)
 
-  close-alike : {k : ℕ} {s : State T J} {s′ : State T′ J′} → Alike 0 k s s′ → (level : ℕ) → level ≤ levels → {e : LevelEdge P} {e′ : LevelEdge P′} → AlikeEdge R most e e′ → Alike 0 k (up.close room s level e) (up.close room′ s′ level e′)
+  close-alike : {k : ℕ} {s : State T J} {s′ : State T′ J′} → Alike 0 k s s′ → (level : ℕ) → level ≤ levels → {e : LevelEdge P} {e′ : LevelEdge P′} → AlikeEdge R film most e e′ → Alike 0 k (up.close room s level e) (up.close room′ s′ level e′)
   unfolding up.close
   close-alike {k} {s} A level lv {e} h =
       pick-alike _ _ (λ i. ltb (A .records i) (M .records i))
@@ -290,7 +306,7 @@ module _ {P T J P′ T′ J′ : Type 0} {room : Room P T J} {room′ : Room P�
       (λ q. overrun A)
 
   -- step 4
-  meeting-alike : {k : ℕ} {s : State T J} {s′ : State T′ J′} → Alike 0 k s s′ → (level : ℕ) (side : Side) {e : LevelEdge P} {e′ : LevelEdge P′} → AlikeEdge R most e e′ → up.meeting room s level side e ≡ up.meeting room′ s′ level side e′
+  meeting-alike : {k : ℕ} {s : State T J} {s′ : State T′ J′} → Alike 0 k s s′ → (level : ℕ) (side : Side) {e : LevelEdge P} {e′ : LevelEdge P′} → AlikeEdge R film most e e′ → up.meeting room s level side e ≡ up.meeting room′ s′ level side e′
   unfolding up.meeting
   meeting-alike A level side h = λ i. up.pickMeeting (h .apart i) (find-alike A level (otherSide side) (top-alike side h) i)
 
@@ -306,18 +322,31 @@ module _ {P T J P′ T′ J′ : Type 0} {room : Room P T J} {room′ : Room P�
   after-alike : {k : ℕ} {x : State T J} {x′ : State T′ J′} → Alike 0 k x x′ → {y : State T J} {y′ : State T′ J′} → (x .end ≡ Done → Alike 0 k y y′) → Alike 0 k (up.afterDone (x .end) x y) (up.afterDone (x′ .end) x′ y′)
   after-alike {k} A f = after-both (Alike 0 k) (A .end) A f
 
-  -- a row found is within the reach
-  found-below : (test : ℕ → Bool) (n q : ℕ) → foundBelow test n ≡ At q → q < n
+  -- a row found is within the reach, and passes
+  found-below : (test : ℕ → Bool) (n q : ℕ) → foundBelow test n ≡ At q → (q < n) × (test q ≡ true)
   unfolding foundBelow
   found-below test n q h = by (ltb (first test n) n) refl h
     where
-      by : (t : Bool) → ltb (first test n) n ≡ t → cond t (At (first test n)) Nothing ≡ At q → q < n
-      by true e u = let v : first test n ≡ q = cc in omega (arith, v, ltb-true (first test n) n e)
+      by : (t : Bool) → ltb (first test n) n ≡ t → cond t (At (first test n)) Nothing ≡ At q → (q < n) × (test q ≡ true)
+      by true e u =
+          let v : first test n ≡ q = cc in
+          let l = ltb-true (first test n) n e in
+          (omega (arith, v, l), rw v at (first-holds test n l))
       by false e u = let z : _≡_ {A = ℕ} 0 1 = cc in absurd (omega arith)
 
-  found-in-time : (s : State T J) (level : ℕ) (side : Side) (p : P) (q : ℕ) → up.find room s level side p ≡ At q → q < s .reach
+  -- the row's tip is at the place that was looked for
+  tip-there : (level : ℕ) (side : Side) (p : P) (row : Row P) → hasTip (room .places) level side p row ≡ true → room .places .same (on side (row .branch) .tip) p ≡ true
+  unfolding hasTip
+  tip-there level side p row t =
+      let a = both-true (row .used) _ t .1 in
+      let b = both-true (eqb (row .level) level) _ a .1 in
+      both-true (not (on side (row .branch) .finished)) _ b .1
+
+  found-tip : (s : State T J) (level : ℕ) (side : Side) (p : P) (q : ℕ) → up.find room s level side p ≡ At q → (q < s .reach) × (film (on side (up.look room s q .branch) .tip) ≡ film p)
   unfolding up.find
-  found-in-time s level side p q h = found-below _ (s .reach) q h
+  found-tip s level side p q h =
+      let w = found-below _ (s .reach) q h in
+      (w .0, M .same-film (tip-there level side p (up.look room s q) (w .1)))
 
   found-small : {k : ℕ} {s : State T J} {s′ : State T′ J′} → Alike 0 k s s′ → s .end ≡ Done → (level : ℕ) (side : Side) (e : LevelEdge P) (q : ℕ) → up.meeting room s level side e ≡ At q → (q < s .reach) × (q ≤ most)
   unfolding up.meeting up.pickMeeting up.find
@@ -325,28 +354,29 @@ module _ {P T J P′ T′ J′ : Type 0} {room : Room P T J} {room′ : Room P�
     where
       by : (t : Bool) → up.pickMeeting t (foundBelow (λ r. hasTip (room .places) level (otherSide side) (top side e) (up.look room s r)) (s .reach)) ≡ At q → (q < s .reach) × (q ≤ most)
       by true u = let z : _≡_ {A = ℕ} 0 1 = cc in absurd (omega arith)
-      by false u = let l = found-below _ (s .reach) q u in (l, omega (arith, l, A .little done, A .kept, M .names))
+      by false u = let l = found-below _ (s .reach) q u .0 in (l, omega (arith, l, A .little done, A .kept, M .names))
 
-  edge-alike : (r : ℕ) {row : Row P} {row′ : Row P′} → r ≤ most → AlikeRow R row row′ → AlikeEdge R most (asEdge r row) (asEdge r row′)
+  edge-alike : (r : ℕ) {row : Row P} {row′ : Row P′} → r ≤ most → AlikeRow R row row′ → film (row .branch .falling .tip) ≡ film (row .branch .rising .tip) → AlikeEdge R film most (asEdge r row) (asEdge r row′)
   unfolding asEdge
-  edge-alike r l a =
+  edge-alike r l a f =
       record {
         name = refl;
         small = l;
         tail = a .branch Falling .tip;
         head = a .branch Rising .tip;
+        one-film = f;
         length = λ i. record { rising = a .branch Rising .length i; falling = a .branch Falling .length i };
         apart = refl;
       }
 
   -- the next level is treated alike
-  module _ (next : (State T J → LevelEdge P → State T J)) (next′ : (State T′ J′ → LevelEdge P′ → State T′ J′)) (alike : (k : ℕ) (s : State T J) (s′ : State T′ J′) (e : LevelEdge P) (e′ : LevelEdge P′) → Alike 0 k s s′ → s .end ≡ Done → AlikeEdge R most e e′ → Alike 0 k (next s e) (next′ s′ e′)) where
+  module _ (next : (State T J → LevelEdge P → State T J)) (next′ : (State T′ J′ → LevelEdge P′ → State T′ J′)) (alike : (k : ℕ) (s : State T J) (s′ : State T′ J′) (e : LevelEdge P) (e′ : LevelEdge P′) → Alike 0 k s s′ → s .end ≡ Done → AlikeEdge R film most e e′ → Alike 0 k (next s e) (next′ s′ e′)) where
     pass-up-alike : {k : ℕ} {s : State T J} {s′ : State T′ J′} → Alike 0 k s s′ → s .end ≡ Done → (r : ℕ) → r < k → r ≤ most → Alike 0 k (up.passUp room next s r) (up.passUp room′ next′ s′ r)
     unfolding up.passUp
     pass-up-alike {k} {s} {s′} A done r l m =
         let a = M .look (A .rows) r (omega (arith, A .since)) in
         pick-alike _ _ (λ i. a .branch Rising .finished i && a .branch Falling .finished i)
-        (λ q. let B = alike k s s′ _ _ A done (edge-alike r m a) in after-alike B (λ u. free-alike B r (omega (arith, l, B .since))))
+        (λ q. let B = alike k s s′ _ _ A done (edge-alike r m a (M .row-film (s .rows) r)) in after-alike B (λ u. free-alike B r (omega (arith, l, B .since))))
         (λ q. A)
 
     pass-both-alike : {k : ℕ} {s : State T J} {s′ : State T′ J′} → Alike 0 k s s′ → s .end ≡ Done → (q r : ℕ) → q < k → q ≤ most → r < k → r ≤ most → Alike 0 k (up.passBoth room next s q r) (up.passBoth room′ next′ s′ q r)
@@ -363,27 +393,27 @@ module _ {P T J P′ T′ J′ : Type 0} {room : Room P T J} {room′ : Room P�
         pass-both-alike (finish-alike (finish-alike A q (otherSide side) (omega (arith, b .0, A .since))) r side (omega (arith, l, A .since))) done q r (b .0) (b .1) l m
 
     -- steps 2 to 4; attaching leaves no smaller reach
-    on-row-since : {s : State T J} {s′ : State T′ J′} → Alike 1 (s .reach) s s′ → (level : ℕ) → level ≤ levels → (side : Side) {e : LevelEdge P} {e′ : LevelEdge P′} → AlikeEdge R most e e′ → (r : ℕ) → r < s .reach → r ≤ s .records → Alike 0 (up.attach room s level side e r .reach) (up.onRow room next s level side e r) (up.onRow room′ next′ s′ level side e′ r)
+    on-row-since : {s : State T J} {s′ : State T′ J′} → Alike 1 (s .reach) s s′ → (level : ℕ) → level ≤ levels → (side : Side) {e : LevelEdge P} {e′ : LevelEdge P′} → AlikeEdge R film most e e′ → (r : ℕ) → r < s .reach → r ≤ s .records → film (on side (up.look room s r .branch) .tip) ≡ film (bottom side e) → Alike 0 (up.attach room s level side e r .reach) (up.onRow room next s level side e r) (up.onRow room′ next′ s′ level side e′ r)
     unfolding up.onRow
-    on-row-since {s} {s′} A level lv side {e} {e′} h r l m =
-        let B = attach-alike A level lv side h r l m in
+    on-row-since {s} {s′} A level lv side {e} {e′} h r l m v =
+        let B = attach-alike A level lv side h r l m v in
         let f = meeting-alike B level side h in
         let C : Alike 0 (up.attach room s level side e r .reach) (up.attach room s level side e r) (up.attach room′ s′ level side e′ r) = weaken (omega arith) B (omega arith) in
         after-alike C (λ done. rw (← f) (meet-alike C done side r (omega (arith, l, B .since)) (omega (arith, m, A .kept, M .names)) (up.meeting room (up.attach room s level side e r) level side e) (λ q u. found-small B done level side e q u)))
 
-    on-row-alike : {k : ℕ} {s : State T J} {s′ : State T′ J′} → Alike 1 k s s′ → (level : ℕ) → level ≤ levels → (side : Side) {e : LevelEdge P} {e′ : LevelEdge P′} → AlikeEdge R most e e′ → (r : ℕ) → r < s .reach → r ≤ s .records → Alike 0 k (up.onRow room next s level side e r) (up.onRow room′ next′ s′ level side e′ r)
-    on-row-alike {k} {s} {s′} A level lv side h r l m =
+    on-row-alike : {k : ℕ} {s : State T J} {s′ : State T′ J′} → Alike 1 k s s′ → (level : ℕ) → level ≤ levels → (side : Side) {e : LevelEdge P} {e′ : LevelEdge P′} → AlikeEdge R film most e e′ → (r : ℕ) → r < s .reach → r ≤ s .records → film (on side (up.look room s r .branch) .tip) ≡ film (bottom side e) → Alike 0 k (up.onRow room next s level side e r) (up.onRow room′ next′ s′ level side e′ r)
+    on-row-alike {k} {s} {s′} A level lv side h r l m v =
         let A₁ : Alike 1 (s .reach) s s′ = weaken (omega arith) A (omega arith) in
-        let B = attach-alike A₁ level lv side h r l m in
-        let C = on-row-since A₁ level lv side h r l m in
+        let B = attach-alike A₁ level lv side h r l m v in
+        let C = on-row-since A₁ level lv side h r l m v in
         weaken (omega arith) C (omega (arith, A .since, B .since, C .since))
 
     -- step 1: the row found, or the lowest free one opened, or none
-    in-chain-alike : {k : ℕ} {s : State T J} {s′ : State T′ J′} → Alike 0 k s s′ → s .end ≡ Done → (level : ℕ) → level ≤ levels → (side : Side) {e : LevelEdge P} {e′ : LevelEdge P′} → AlikeEdge R most e e′ → (f : Found) → ((q : ℕ) → f ≡ At q → q < s .reach) → Alike 0 k (up.inChain room next s level side e f) (up.inChain room′ next′ s′ level side e′ f)
+    in-chain-alike : {k : ℕ} {s : State T J} {s′ : State T′ J′} → Alike 0 k s s′ → s .end ≡ Done → (level : ℕ) → level ≤ levels → (side : Side) {e : LevelEdge P} {e′ : LevelEdge P′} → AlikeEdge R film most e e′ → (f : Found) → ((q : ℕ) → f ≡ At q → (q < s .reach) × (film (on side (up.look room s q .branch) .tip) ≡ film (bottom side e))) → Alike 0 k (up.inChain room next s level side e f) (up.inChain room′ next′ s′ level side e′ f)
     unfolding up.inChain
     in-chain-alike A done level lv side h (At r) g =
-        let l = g r refl in
-        on-row-alike (weaken (omega arith) A (A .since)) level lv side h r l (omega (arith, l, A .little done))
+        let w = g r refl in
+        on-row-alike (weaken (omega arith) A (A .since)) level lv side h r (w .0) (omega (arith, w .0, A .little done)) (w .1)
     in-chain-alike {k} {s} {s′} A done level lv side {e} {e′} h Nothing g = rw (← lowest-alike A) (pick-alike (ltb low (room .rows)) (ltb low (room′ .rows)) (λ i. ltb low (M .rows i)) opens (λ u. none))
       where
         low : ℕ
@@ -393,21 +423,21 @@ module _ {P T J P′ T′ J′ : Type 0} {room : Room P T J} {room′ : Room P�
         opens t =
             let l = ltb-true low (room .rows) t in
             let B = open-alike A level (bottom-alike side h) done l in
-            on-row-alike B level lv side h low (opened-below s level (bottom side e)) (omega (arith, lowest-up-to s, A .little done, open-records s low level (bottom side e)))
+            on-row-alike B level lv side h low (opened-below s level (bottom side e)) (omega (arith, lowest-up-to s, A .little done, open-records s low level (bottom side e))) (open-film A level (bottom side e) side l)
 
         none : Alike 0 k (up.ended NoFreeRow s) (up.ended NoFreeRow s′)
         none = end-early NoFreeRow (λ x. let z : _≡_ {A = ℕ} 0 1 = cc in omega arith) A
 
-    steps-alike : {k : ℕ} {s : State T J} {s′ : State T′ J′} → Alike 0 k s s′ → s .end ≡ Done → (level : ℕ) → level ≤ levels → (side : Side) {e : LevelEdge P} {e′ : LevelEdge P′} → AlikeEdge R most e e′ → Alike 0 k (up.stepsOn room next s level side e) (up.stepsOn room′ next′ s′ level side e′)
+    steps-alike : {k : ℕ} {s : State T J} {s′ : State T′ J′} → Alike 0 k s s′ → s .end ≡ Done → (level : ℕ) → level ≤ levels → (side : Side) {e : LevelEdge P} {e′ : LevelEdge P′} → AlikeEdge R film most e e′ → Alike 0 k (up.stepsOn room next s level side e) (up.stepsOn room′ next′ s′ level side e′)
     unfolding up.stepsOn
     steps-alike {k} {s} A done level lv side {e} h =
-        rw (← find-alike A level side (bottom-alike side h)) (in-chain-alike A done level lv side h (up.find room s level side (bottom side e)) (found-in-time s level side (bottom side e)))
+        rw (← find-alike A level side (bottom-alike side h)) (in-chain-alike A done level lv side h (up.find room s level side (bottom side e)) (found-tip s level side (bottom side e)))
 
-  side-alike : {e : LevelEdge P} {e′ : LevelEdge P′} → AlikeEdge R most e e′ → sideOf (room .places) e ≡ sideOf (room′ .places) e′
+  side-alike : {e : LevelEdge P} {e′ : LevelEdge P′} → AlikeEdge R film most e e′ → sideOf (room .places) e ≡ sideOf (room′ .places) e′
   side-alike h = λ i. cond (M .below (h .tail) (h .head) i) Rising Falling
 
   -- every treatment is alike, by the levels left
-  treat-alike : (left level : ℕ) → level + left ≤ levels → (k : ℕ) (s : State T J) (s′ : State T′ J′) (e : LevelEdge P) (e′ : LevelEdge P′) → Alike 0 k s s′ → s .end ≡ Done → AlikeEdge R most e e′ → Alike 0 k (up.treat room left level s e) (up.treat room′ left level s′ e′)
+  treat-alike : (left level : ℕ) → level + left ≤ levels → (k : ℕ) (s : State T J) (s′ : State T′ J′) (e : LevelEdge P) (e′ : LevelEdge P′) → Alike 0 k s s′ → s .end ≡ Done → AlikeEdge R film most e e′ → Alike 0 k (up.treat room left level s e) (up.treat room′ left level s′ e′)
   unfolding up.treat
   treat-alike zero level l k s s′ e e′ A done h =
       pick-alike _ _ (M .same (h .tail) (h .head)) (λ q. close-alike A level (omega arith) h) (λ q. overrun A)
@@ -420,7 +450,7 @@ module _ {P T J P′ T′ J′ : Type 0} {room : Room P T J} {room′ : Room P�
     pub edge : w .edge ≡ w′ .edge
 
   -- the sweep up in the two rooms
-  pub sweep-alike : (list : ℕ → LevelEdge P) (list′ : ℕ → LevelEdge P′) (n : ℕ) → ((i : ℕ) → i < n → AlikeEdge R most (list i) (list′ i)) → {s : State T J} {s′ : State T′ J′} → Alike 0 0 s s′ → AlikeSweep (up.sweepUp room list s n) (up.sweepUp room′ list′ s′ n)
+  pub sweep-alike : (list : ℕ → LevelEdge P) (list′ : ℕ → LevelEdge P′) (n : ℕ) → ((i : ℕ) → i < n → AlikeEdge R film most (list i) (list′ i)) → {s : State T J} {s′ : State T′ J′} → Alike 0 0 s s′ → AlikeSweep (up.sweepUp room list s n) (up.sweepUp room′ list′ s′ n)
   unfolding up.sweepUp
   sweep-alike list list′ zero h A = record { state = A; edge = refl }
   sweep-alike list list′ (suc n) h {s} {s′} A =

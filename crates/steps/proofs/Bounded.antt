@@ -4,6 +4,7 @@
 use mathlib.Core.Path.{_≡_, refl}
 use Prim.Native.Nat.{ℕ, zero, suc, _+_, _≤_, _<_}
 use native.Mathlib.Omega.{arith}
+use lib.IntN.{ℤ, pos}
 use Rattle.laws.specs.Counting.{largest}
 use Rattle.laws.proofs.Largest.{largest-bound}
 use Rattle.steps.specs.declared.End.{End}
@@ -17,15 +18,22 @@ use Rattle.steps.proofs.Alike.{AlikeRow, AlikeEdge, Match, start-alike,
 row-self : {P : Type 0} (row : Row P) → AlikeRow (λ p q. p ≡ q) row row
 row-self row = record { used = refl; level = refl; branch = λ s. record { tip = refl; length = refl; finished = refl } }
 
-pub self : {P T J : Type 0} (room : Room P T J) (most : ℕ) → room .records ≤ most → Match room room (λ p q. p ≡ q) (λ k t t′. t ≡ t′) (λ k j j′. j ≡ j′) most 0
+-- whatever films there are, here they do not matter
+abbrev pub noFilm : {P : Type 0} → P → ℤ
+noFilm p = pos 0
+
+pub self : {P T J : Type 0} (room : Room P T J) (most : ℕ) → room .records ≤ most → Match room room (λ p q. p ≡ q) noFilm (λ k t t′. t ≡ t′) (λ k j j′. j ≡ j′) most 0
 self room most names =
     record {
+      same-film = λ e. refl;
+      row-film = λ t r. refl;
+      opened-film = λ h r level p l s. refl;
       same = λ h k. λ i. room .places .same (h i) (k i);
       below = λ h k. λ i. room .places .below (h i) (k i);
       look = λ {k} {t} h r l. rw (← h) (row-self (room .table .look t r));
       unopened = λ h r l m. absurd (omega arith);
       opened = λ h e r level l m. λ i. room .table .opened (h i) r level (e i);
-      moved = λ h e r s n l. λ i. room .table .moved (h i) r s (e i) n;
+      moved = λ h e r s n l f. λ i. room .table .moved (h i) r s (e i) n;
       finished = λ h r s l. λ i. room .table .finished (h i) r s;
       freed = λ h r l. λ i. room .table .freed (h i) r;
       written = λ {j} {j′} {k} {entry} h l m. λ i. room .journal .written (h i) k entry;
@@ -44,8 +52,8 @@ pub record Within {P T J : Type 0} (room : Room P T J) (s : State T J) : Type 0 
 abbrev pub mostName : {P T J : Type 0} → Room P T J → (ℕ → LevelEdge P) → ℕ → ℕ
 mostName room list n = room .records + largest (λ i. list i .name) n
 
-pub same-edges : {P T J : Type 0} (room : Room P T J) (list : ℕ → LevelEdge P) (n i : ℕ) → i < n → AlikeEdge (λ p q. p ≡ q) (mostName room list n) (list i) (list i)
-same-edges room list n i l = record { name = refl; small = omega (arith, largest-bound (λ k. list k .name) n i l); tail = refl; head = refl; length = refl; apart = refl }
+pub same-edges : {P T J : Type 0} (room : Room P T J) (list : ℕ → LevelEdge P) (n i : ℕ) → i < n → AlikeEdge (λ p q. p ≡ q) noFilm (mostName room list n) (list i) (list i)
+same-edges room list n i l = record { name = refl; small = omega (arith, largest-bound (λ k. list k .name) n i l); tail = refl; head = refl; one-film = refl; length = refl; apart = refl }
 
 pub sweep-within : {P T J : Type 0} (room : Room P T J) (list : ℕ → LevelEdge P) (n : ℕ) (t : T) (j : J) → Within room (sweepUp room list (start 0 t j) n .state)
 sweep-within room list n t j =

@@ -10,7 +10,7 @@ use Rattle.steps.specs.Rows.{on, Row, Record, LevelEdge, Places, Room}
 use Rattle.steps.specs.SweepUp.{Sweep, sweepUp, start}
 use Rattle.steps.specs.Plain.{put, newRow, withBranch, finishedBranch, freeRow, plainTable, plainJournal}
 use Rattle.steps.proofs.Alike.{Match, start-alike, sweep-alike}
-use Rattle.steps.proofs.Bounded.{self, mostName, same-edges}
+use Rattle.steps.proofs.Bounded.{noFilm, self, mostName, same-edges}
 
 pub record SameRun {T J : Type 0} (w w′ : Sweep T J) : Type 0 where
   pub rows : w .state .rows ≡ w′ .state .rows
@@ -33,17 +33,20 @@ module _ {P : Type 0} (places : Places P) (rows records : ℕ) where
   still-free : {k k′ : ℕ} {t t′ : ℕ → Row P} → FreeFrom k t t′ → (r : ℕ) (v : Row P) → r < k′ → k ≤ k′ → (q : ℕ) → k′ ≤ q → q < rows → put t′ r v q .used ≡ false
   still-free {k} {k′} {t} {t′} F r v l m q a b = ap (λ (u : Bool). cond u v (t′ q) .used) (ne-eqb q r (λ h. omega arith)) ∙ F .free q (omega arith) b
 
-  further : (most : ℕ) → records ≤ most → Match room room (λ p q. p ≡ q) FreeFrom (λ k j j′. j ≡ j′) most rows
+  further : (most : ℕ) → records ≤ most → Match room room (λ p q. p ≡ q) noFilm FreeFrom (λ k j j′. j ≡ j′) most rows
   unfolding plainTable
   further most names =
       let S = self room most names in
       record {
+        same-film = S .same-film;
+        row-film = S .row-film;
+        opened-film = λ {k} F r level p l s. S .opened-film {k = k} (F .same) r level p l s;
         same = S .same;
         below = S .below;
         look = λ F r l. S .look (F .same) r l;
         unopened = λ F r l m. F .free r l m;
         opened = λ {p′ = p′} F e r level l m. record { same = S .opened (F .same) e r level l m; free = still-free F r (newRow level p′) (omega arith) (omega arith) };
-        moved = λ {t′ = t′} {p′ = p′} F e r s n l. record { same = S .moved (F .same) e r s n l; free = still-free F r (withBranch (t′ r) s (record { tip = p′; length = n; finished = false })) l (omega arith) };
+        moved = λ {t′ = t′} {p′ = p′} F e r s n l f. record { same = S .moved (F .same) e r s n l f; free = still-free F r (withBranch (t′ r) s (record { tip = p′; length = n; finished = false })) l (omega arith) };
         finished = λ {t′ = t′} F r s l. record { same = S .finished (F .same) r s l; free = still-free F r (withBranch (t′ r) s (finishedBranch (on s (t′ r .branch)))) l (omega arith) };
         freed = λ {t′ = t′} F r l. record { same = S .freed (F .same) r l; free = still-free F r (freeRow (t′ r)) l (omega arith) };
         written = S .written;
