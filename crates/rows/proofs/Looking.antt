@@ -7,16 +7,15 @@ use native.Mathlib.Omega.{arith}
 use lib.IntN.{ℤ, pos}
 use lib.ListN.{getD}
 use lib.Signed.{nonNeg, mag}
-use Rattle.sheet.specs.declared.Point.{Point}
 use Rattle.steps.specs.declared.Side.{Side}
 use Rattle.steps.specs.declared.Side.the-variants.{Rising, Falling}
 use Rattle.steps.specs.Rows.{on}
 use Rattle.steps.specs.SweepUp.{bothFinished}
-use Rattle.rows.specs.Layout.{branchAt, lookBranch, lookRow}
+use Rattle.rows.specs.Layout.{onFilm, filmIn, branchAt, lookBranch, lookRow}
 use Rattle.steps.specs.Swept.{numbersPerRow}
 
 module _ (s : List ℤ) (r : ℕ) where
-  pub branch-is : (side : Side) → on side (lookRow s r .branch) ≡ lookBranch s (branchAt side r)
+  pub branch-is : (side : Side) → on side (lookRow s r .branch) ≡ lookBranch s (filmIn s r) (branchAt side r)
   unfolding lookRow
   branch-is Rising = refl
   branch-is Falling = refl
@@ -26,7 +25,7 @@ module _ (s : List ℤ) (r : ℕ) where
   length-is side = rw branch-is
 
   pub tip-is : (side : Side) →
-      on side (lookRow s r .branch) .tip ≡ (let p : Point = record { x = getD s (branchAt side r) (pos 0); y = getD s (branchAt side r + 1) (pos 0) } in p)
+      on side (lookRow s r .branch) .tip ≡ onFilm (filmIn s r) (record { x = getD s (branchAt side r) (pos 0); y = getD s (branchAt side r + 1) (pos 0) })
   unfolding lookBranch
   tip-is side = rw branch-is
 

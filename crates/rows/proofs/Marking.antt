@@ -1,7 +1,7 @@
 -- Marks stay good. A search starts at or before every row below the peak with the tip that it looks for, so no row before its start has such a tip.
 -- Marking lets no search start later, a row that is opened or whose tip is moved gets its marks, and finishing and freeing keep a row's level and tips.
 use mathlib.Core.Path.{_≡_, refl, _∙_}
-use mathlib.Core.Bool.{true, false}
+use mathlib.Core.Bool.{true, false, _&&_}
 use mathlib.Core.Logic.{⊎-elim}
 use mathlib.Core.List.{List}
 use Prim.Native.Nat.{ℕ, _+_, _-_, _/_, _≤_, _<_, max}
@@ -9,37 +9,40 @@ use native.Mathlib.Omega.{arith}
 use lib.IntN.{ℤ}
 use lib.ListN.{length, getD, length-set}
 use lib.Seq.{getD-set-same, getD-set-other}
-use Rattle.laws.proofs.Deciding.{eq-or-ne, true-or-false}
-use Rattle.sheet.specs.declared.Point.{Point}
+use Rattle.laws.proofs.Deciding.{eq-or-ne, true-or-false, both-true}
+use Rattle.sheet.specs.Points.{sameZ, isSame}
 use Rattle.sheet.proofs.Ranks.{same-point}
 use Rattle.steps.specs.declared.Side.{Side}
 use Rattle.steps.specs.declared.Side.the-variants.{Rising, Falling}
 use Rattle.steps.specs.Rows.{on, Row, Branch}
 use Rattle.steps.specs.Plain.{newRow, withBranch}
 use Rattle.steps.specs.SweepUp.{hasTip}
-use Rattle.rows.specs.Layout.{pointPlaces, HasRow, lookRow, openedIn, movedIn, finishedIn, freedIn}
+use Rattle.rows.specs.declared.Place.{Place}
+use Rattle.rows.specs.Layout.{onFilm, filmPlaces, filmIn, HasRow, lookRow, openedIn, movedIn, finishedIn, freedIn}
 use Rattle.rows.specs.Marks.{slots, slotOf, startAt, markedIn, tipSlot, Marked}
 use Rattle.rows.proofs.Searching.{tip-parts}
 use Rattle.rows.proofs.Writing.{OnlyRow, other-row, opened-only, opened-here, moved-only, moved-here, finished-only, finished-here, freed-only, freed-here}
 
-slot-there : (level : ℕ) (side : Side) (p : Point) → slotOf level side p < slots
+slot-there : (level : ℕ) (side : Side) (p : Place) → slotOf level side p < slots
 unfolding slotOf
 slot-there level side p = omega arith
 
-module _ (s : List ℤ) (r level : ℕ) (side : Side) (p : Point) where
+module _ (s : List ℤ) (r level : ℕ) (side : Side) (p : Place) where
   -- a row with a tip has it in the tip's slot
-  tip-slot : hasTip pointPlaces level side p (lookRow s r) ≡ true → tipSlot s r side ≡ slotOf level side p
+  tip-slot : hasTip filmPlaces level side p (lookRow s r) ≡ true → tipSlot s r side ≡ slotOf level side p
+  unfolding slotOf filmPlaces
   tip-slot t =
       let h = tip-parts s level side p r t in
-      let place : on side (lookRow s r .branch) .tip ≡ p = same-point _ _ (h .1) in
+      let tip = on side (lookRow s r .branch) .tip in
+      let place : tip .point ≡ p .point = same-point _ _ (both-true (sameZ (tip .film) (p .film)) (isSame (tip .point) (p .point)) (h .1) .1) in
       rw (h .0, place)
 
   pub none-before : {marks : List ℕ} {peak : ℕ} → Marked marks s peak → r < startAt marks (slotOf level side p) → r < peak →
-      hasTip pointPlaces level side p (lookRow s r) ≡ false
+      hasTip filmPlaces level side p (lookRow s r) ≡ false
   none-before {marks} M before below = ⊎-elim
       (λ t. let h : startAt marks (slotOf level side p) ≤ r = rw (tip-slot t) at (M .starts r below side) in absurd (omega (arith, h, before)))
       (λ f. f)
-      (true-or-false (hasTip pointPlaces level side p (lookRow s r)))
+      (true-or-false (hasTip filmPlaces level side p (lookRow s r)))
 
 length-marked : (marks : List ℕ) (i r : ℕ) → length (markedIn marks i r) ≡ length marks
 unfolding markedIn
@@ -67,7 +70,7 @@ module _ {m m₁ : List ℕ} {s t : List ℤ} {r peak : ℕ} (M : Marked m s pea
       other q h side d = rw (other-row o q d) (omega (arith, earlier (tipSlot s q side), M .starts q (below q h d) side))
 
 -- a branch changed but for its tip
-tip-on : (row : Row Point) (side other : Side) (b : Branch Point) → b .tip ≡ on side (row .branch) .tip →
+tip-on : (row : Row Place) (side other : Side) (b : Branch Place) → b .tip ≡ on side (row .branch) .tip →
     on other (withBranch row side b .branch) .tip ≡ on other (row .branch) .tip
 tip-on row Rising Rising b e = e
 tip-on row Rising Falling b e = refl
@@ -87,7 +90,8 @@ module _ {m : List ℕ} {s : List ℤ} {peak : ℕ} (M : Marked m s peak) (r : �
   marked-freed = kept (freed-only s r) (rw (freed-here s r has)) (λ x. rw (freed-here s r has))
 
   -- a tip moved in a row of the level, and marked
-  pub marked-moved : (level : ℕ) → lookRow s r .level ≡ level → (side : Side) (p : Point) (n : ℕ) → Marked (markedIn m (slotOf level side p) r) (movedIn s r side p n) peak
+  pub marked-moved : (level : ℕ) → lookRow s r .level ≡ level → (side : Side) (p : Place) (n : ℕ) → Marked (markedIn m (slotOf level side p) r) (movedIn s r side p n) peak
+  unfolding slotOf
   marked-moved level l side p n =
       let i = slotOf level side p in
       but-row M (moved-only s r side p n) (length-marked m i r) (no-later m i r (there side)) peak (λ q h d. h) (λ h x. rw (moved-here s r has p n side) (by h side x))
@@ -95,8 +99,8 @@ module _ {m : List ℕ} {s : List ℤ} {peak : ℕ} (M : Marked m s peak) (r : �
       there : (a : Side) → slotOf level a p < length m
       there a = rw (M .sized) (slot-there level a p)
 
-      moved : Branch Point
-      moved = record { tip = p; length = n; finished = false }
+      moved : Branch Place
+      moved = record { tip = onFilm (filmIn s r) (p .point); length = n; finished = false }
 
       here : (a : Side) → startAt (markedIn m (slotOf level a p) r) (slotOf (lookRow s r .level) a p) ≤ r
       here a = rw l (by-row m (slotOf level a p) r (there a))
@@ -111,7 +115,7 @@ module _ {m : List ℕ} {s : List ℤ} {peak : ℕ} (M : Marked m s peak) (r : �
       by h Falling Falling = here Falling
 
   -- a row opened, no higher than the peak, and marked on both sides
-  pub marked-opened : r ≤ peak → (level : ℕ) (p : Point) →
+  pub marked-opened : r ≤ peak → (level : ℕ) (p : Place) →
       Marked (markedIn (markedIn m (slotOf level Rising p) r) (slotOf level Falling p) r) (openedIn s r level p) (max peak (r + 1))
   marked-opened low level p =
       but-row M (opened-only s r level p) (length-marked m₁ j r ∙ length-marked m i r) (λ k. omega (arith, no-later m₁ j r j-there k, no-later m i r i-there k)) (max peak (r + 1))

@@ -18,13 +18,12 @@ use Rattle.laws.proofs.Bits.{read-back}
 use Rattle.laws.proofs.Deciding.{lt-or-le, not-both, both-true}
 use Rattle.laws.proofs.First.{first-is, first-holds}
 use Rattle.laws.proofs.Tests.{not-not}
-use Rattle.sheet.specs.declared.Point.{Point}
-use Rattle.sheet.specs.Points.{isSame}
 use Rattle.steps.specs.declared.Side.{Side}
 use Rattle.steps.specs.declared.Found.the-variants.{At, Nothing}
 use Rattle.steps.specs.Rows.{on}
 use Rattle.steps.specs.SweepUp.{foundBelow, hasTip}
-use Rattle.rows.specs.Layout.{pointPlaces, HasRow, lookRow}
+use Rattle.rows.specs.declared.Place.{Place}
+use Rattle.rows.specs.Layout.{filmPlaces, HasRow, lookRow}
 use Rattle.steps.specs.Swept.{numbersPerRow}
 
 -- a search that stops at m, past which no number below n passes
@@ -60,31 +59,32 @@ module _ (s : List ℤ) where
   has-row : (r : ℕ) → lookRow s r .used ≡ true → HasRow s r
   has-row r e = ⊎-elim (λ h. absurd (not-both e (past-free r h))) (λ h. h) (lt-or-le (length s) (numbersPerRow * r + numbersPerRow))
 
-  module _ (level : ℕ) (side : Side) (tip : Point) where
-    tip-in-use : (r : ℕ) → hasTip pointPlaces level side tip (lookRow s r) ≡ true → lookRow s r .used ≡ true
+  module _ (level : ℕ) (side : Side) (tip : Place) where
+    tip-in-use : (r : ℕ) → hasTip filmPlaces level side tip (lookRow s r) ≡ true → lookRow s r .used ≡ true
     unfolding hasTip
     tip-in-use r e = both-true _ _ e .0
 
     -- what a row that passes the test has
-    pub tip-parts : (r : ℕ) → hasTip pointPlaces level side tip (lookRow s r) ≡ true →
-        (lookRow s r .level ≡ level) × (isSame (on side (lookRow s r .branch) .tip) tip ≡ true)
-    unfolding hasTip pointPlaces
+    pub tip-parts : (r : ℕ) → hasTip filmPlaces level side tip (lookRow s r) ≡ true →
+        (lookRow s r .level ≡ level) × (filmPlaces .same (on side (lookRow s r .branch) .tip) tip ≡ true)
+    unfolding hasTip
     tip-parts r t =
         let row = lookRow s r in
-        let place = not (on side (row .branch) .finished) && isSame (on side (row .branch) .tip) tip in
+        let here = filmPlaces .same (on side (row .branch) .tip) tip in
+        let place = not (on side (row .branch) .finished) && here in
         let e : (eqb (row .level) level && place) ≡ true = both-true (row .used) _ t .1 in
         let f = both-true (eqb (row .level) level) place e in
-        (eqb-true _ _ (f .0), both-true (not (on side (row .branch) .finished)) (isSame (on side (row .branch) .tip) tip) (f .1) .1)
+        (eqb-true _ _ (f .0), both-true (not (on side (row .branch) .finished)) here (f .1) .1)
 
     -- a row that is found is there
-    pub found-there : (peak r : ℕ) → foundBelow (λ k. hasTip pointPlaces level side tip (lookRow s k)) peak ≡ At r → HasRow s r
-    found-there peak r e = has-row r (tip-in-use r (found-is (λ k. hasTip pointPlaces level side tip (lookRow s k)) peak r e .1))
+    pub found-there : (peak r : ℕ) → foundBelow (λ k. hasTip filmPlaces level side tip (lookRow s k)) peak ≡ At r → HasRow s r
+    found-there peak r e = has-row r (tip-in-use r (found-is (λ k. hasTip filmPlaces level side tip (lookRow s k)) peak r e .1))
 
     -- and of the level
-    pub found-level : (peak r : ℕ) → foundBelow (λ k. hasTip pointPlaces level side tip (lookRow s k)) peak ≡ At r → lookRow s r .level ≡ level
-    found-level peak r e = tip-parts r (found-is (λ k. hasTip pointPlaces level side tip (lookRow s k)) peak r e .1) .0
+    pub found-level : (peak r : ℕ) → foundBelow (λ k. hasTip filmPlaces level side tip (lookRow s k)) peak ≡ At r → lookRow s r .level ≡ level
+    found-level peak r e = tip-parts r (found-is (λ k. hasTip filmPlaces level side tip (lookRow s k)) peak r e .1) .0
 
-    pub past-no-tip : (r : ℕ) → length s < numbersPerRow * r + 8 → hasTip pointPlaces level side tip (lookRow s r) ≡ false
+    pub past-no-tip : (r : ℕ) → length s < numbersPerRow * r + 8 → hasTip filmPlaces level side tip (lookRow s r) ≡ false
     unfolding hasTip
     past-no-tip r h = rw (past-free r h)
 

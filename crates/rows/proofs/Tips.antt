@@ -15,13 +15,13 @@ use mir.Val.{SFits, toZ, ofZ}
 use borrow.Author.Tests.{lt-ltb, le-leb, eq-eqb, ne-eqb}
 use Rattle.laws.proofs.Deciding.{eq-or-ne}
 use Rattle.laws.proofs.Tests.{not-not, and-assoc, and-true, and-false}
-use Rattle.sheet.specs.declared.Point.{Point}
 use Rattle.sheet.specs.Points.{sameZ, isSame}
 use Rattle.sheet.proofs.Signed.{bits-sameZ}
 use Rattle.steps.specs.declared.Side.{Side}
 use Rattle.steps.specs.declared.Side.the-variants.{Rising, Falling}
 use Rattle.steps.specs.SweepUp.{hasTip}
-use Rattle.rows.specs.Layout.{pointPlaces, HasRow, branchAt, levelIn, lookBranch, lookRow}
+use Rattle.rows.specs.declared.Place.{Place}
+use Rattle.rows.specs.Layout.{filmPlaces, filmIn, HasRow, branchAt, levelIn, lookBranch, lookRow}
 use Rattle.rows.proofs.Signs.{plain-read, tested}
 use Rattle.steps.specs.Swept.{numbersPerRow}
 
@@ -43,21 +43,21 @@ module _ (level : ℕ) (h : level < 2147483647) where
   pub mark-fits : SFits w32 (toZ w32 level +ℤ pos 1)
   mark-fits = rw mark-is (record { sfits = omega arith })
 
-module _ (s : List ℤ) (r level : ℕ) (side : Side) (tip : Point) (has : HasRow s r) where
+module _ (s : List ℤ) (r level : ℕ) (side : Side) (tip : Place) (has : HasRow s r) where
   byNumbers : ℕ → Bool
   byNumbers b =
-      sameZ (getD s (numbersPerRow * r) (pos 0)) (pos (level + 1)) && (nonNeg (getD s (b + 2) (pos 0)) && isSame (record { x = getD s b (pos 0); y = getD s (b + 1) (pos 0) }) tip)
+      sameZ (getD s (numbersPerRow * r) (pos 0)) (pos (level + 1)) && (nonNeg (getD s (b + 2) (pos 0)) && (sameZ (filmIn s r) (tip .film) && isSame (record { x = getD s b (pos 0); y = getD s (b + 1) (pos 0) }) (tip .point)))
 
-  tip-test : (x : Side) → hasTip pointPlaces level x tip (lookRow s r) ≡ byNumbers (branchAt x r)
-  unfolding hasTip pointPlaces lookRow lookBranch byNumbers
+  tip-test : (x : Side) → hasTip filmPlaces level x tip (lookRow s r) ≡ byNumbers (branchAt x r)
+  unfolding hasTip filmPlaces lookRow lookBranch byNumbers
   tip-test Rising = rw (le-leb (numbersPerRow * r + numbersPerRow) (length s) has) (simp (not-not, and-assoc, level-number))
   tip-test Falling = rw (le-leb (numbersPerRow * r + numbersPerRow) (length s) has) (simp (not-not, and-assoc, level-number))
 
   module _ (b : ℕ) (at : b ≡ branchAt side r) where
-    test-at : hasTip pointPlaces level side tip (lookRow s r) ≡ byNumbers b
+    test-at : hasTip filmPlaces level side tip (lookRow s r) ≡ byNumbers b
     test-at = tip-test side ∙ ap byNumbers (sym at)
 
-    pub other-tip : isSame (record { x = getD s b (pos 0); y = getD s (b + 1) (pos 0) }) tip ≡ false → false ≡ hasTip pointPlaces level side tip (lookRow s r)
+    pub other-tip : isSame (record { x = getD s b (pos 0); y = getD s (b + 1) (pos 0) }) (tip .point) ≡ false → false ≡ hasTip filmPlaces level side tip (lookRow s r)
     unfolding byNumbers
     other-tip e = rw (test-at, e) (sym (simp and-false))
 
@@ -65,13 +65,19 @@ module _ (s : List ℤ) (r level : ℕ) (side : Side) (tip : Point) (has : HasRo
       sign : (t : Bool) → ltZ (toZ w32 (ofZ w32 (getD s (b + 2) (pos 0)))) (pos 0) ≡ t → nonNeg (getD s (b + 2) (pos 0)) ≡ not t
       sign t h = sym (not-not _) ∙ ap not (tested (getD s (b + 2) (pos 0)) f h)
 
-      pub finished-there : ltZ (toZ w32 (ofZ w32 (getD s (b + 2) (pos 0)))) (pos 0) ≡ true → false ≡ hasTip pointPlaces level side tip (lookRow s r)
+      pub finished-there : ltZ (toZ w32 (ofZ w32 (getD s (b + 2) (pos 0)))) (pos 0) ≡ true → false ≡ hasTip filmPlaces level side tip (lookRow s r)
       unfolding byNumbers
       finished-there h = rw (test-at, sign true h) (sym (simp and-false))
 
-      pub level-decides : level < 2147483647 → mag (getD s (numbersPerRow * r) (pos 0)) < 2147483648 →
-          isSame (record { x = getD s b (pos 0); y = getD s (b + 1) (pos 0) }) tip ≡ true → ltZ (toZ w32 (ofZ w32 (getD s (b + 2) (pos 0)))) (pos 0) ≡ false →
-          eqb (ofZ w32 (getD s (numbersPerRow * r) (pos 0))) (ofZ w32 (toZ w32 level +ℤ pos 1)) ≡ hasTip pointPlaces level side tip (lookRow s r)
+      pub other-film : mag (filmIn s r) < 2147483648 → mag (tip .film) < 2147483648 → eqb (ofZ w32 (filmIn s r)) (ofZ w32 (tip .film)) ≡ false →
+          false ≡ hasTip filmPlaces level side tip (lookRow s r)
       unfolding byNumbers
-      level-decides hl f0 e h =
-          rw (test-at, sign false h, e, and-true, mark-is level hl) (bits-sameZ (getD s (numbersPerRow * r) (pos 0)) (pos (level + 1)) f0 (omega arith))
+      other-film fr ft e = rw (test-at, sym (bits-sameZ (filmIn s r) (tip .film) fr ft) ∙ e) (sym (simp and-false))
+
+      pub level-decides : level < 2147483647 → mag (getD s (numbersPerRow * r) (pos 0)) < 2147483648 →
+          mag (filmIn s r) < 2147483648 → mag (tip .film) < 2147483648 → eqb (ofZ w32 (filmIn s r)) (ofZ w32 (tip .film)) ≡ true →
+          isSame (record { x = getD s b (pos 0); y = getD s (b + 1) (pos 0) }) (tip .point) ≡ true → ltZ (toZ w32 (ofZ w32 (getD s (b + 2) (pos 0)))) (pos 0) ≡ false →
+          eqb (ofZ w32 (getD s (numbersPerRow * r) (pos 0))) (ofZ w32 (toZ w32 level +ℤ pos 1)) ≡ hasTip filmPlaces level side tip (lookRow s r)
+      unfolding byNumbers
+      level-decides hl f0 fr ft ef e h =
+          rw (test-at, sign false h, sym (bits-sameZ (filmIn s r) (tip .film) fr ft) ∙ ef, e, and-true, mark-is level hl) (bits-sameZ (getD s (numbersPerRow * r) (pos 0)) (pos (level + 1)) f0 (omega arith))

@@ -1,4 +1,4 @@
--- Marks beside the rows, a table of 16,384 numbers that spares searches. A tip's level, side and place give its slot, and the mark there says from which
+-- Marks beside the rows, a table of 16,384 numbers that spares searches. A tip's level, side and point give its slot, whatever its film, and the mark there says from which
 -- row on a search for such a tip has to look. Marks count fours of rows, down from 255: 0, which all are at the start, says that none of the first 1,020
 -- rows has such a tip.
 use Prim.Native.Nat.{ℕ, _+_, _-_, _*_, _/_, _%_, _≤_, _<_, max}
@@ -6,11 +6,11 @@ use mathlib.Core.Path.{_≡_}
 use mathlib.Core.List.{List}
 use lib.IntN.{ℤ}
 use lib.ListN.{length, getD, set}
-use Rattle.sheet.specs.declared.Point.{Point}
 use Rattle.sheet.specs.Rank.{rank}
 use Rattle.steps.specs.declared.Side.{Side}
 use Rattle.steps.specs.declared.Side.the-variants.{Rising, Falling}
 use Rattle.steps.specs.Rows.{on}
+use Rattle.rows.specs.declared.Place.{Place}
 use Rattle.rows.specs.Layout.{lookRow}
 
 abbrev pub slots : ℕ
@@ -22,8 +22,8 @@ sideStep Rising = 0
 sideStep Falling = 8192
 
 -- any slot would do; this one spreads the places of a grid
-unfoldable pub slotOf : ℕ → Side → Point → ℕ
-slotOf level side p = (rank p % 16381 + level * 1021 + sideStep side) % slots
+unfoldable pub slotOf : ℕ → Side → Place → ℕ
+slotOf level side p = (rank (p .point) % 16381 + level * 1021 + sideStep side) % slots
 
 -- the first row to look at
 unfoldable pub startAt : List ℕ → ℕ → ℕ

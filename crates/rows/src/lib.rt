@@ -16,12 +16,42 @@ ghost use Rattle.laws.specs.Counting.{first};
 ghost use Rattle.sheet.specs.Points.{isSame};
 ghost use Rattle.steps.specs.Rows.{on};
 ghost use Rattle.steps.specs.SweepUp.{foundBelow, hasTip, bothFinished};
-ghost use Rattle.rows.specs.Layout.{pointPlaces, HasRow, branchAt, freedNumber, lookRow, openedIn, movedIn, finishedIn, freedIn};
+ghost use Rattle.rows.specs.Layout.{filmPlaces, HasRow, branchAt, freedNumber, lookRow, openedIn, movedIn, finishedIn, freedIn};
 ghost use Rattle.steps.specs.Swept.{rowsIn};
 ghost use Rattle.rows.specs.Marks.{Marked};
 
 // How many numbers a row has.
 pub const NUMBERS: usize = 8;
+
+// Which of them is its film.
+const FILM: usize = 7;
+
+// A point with a film. Edges meet only within a film.
+pub struct Place {
+    pub film: i32,
+    pub point: Point,
+}
+
+impl Place {
+    // Whether both are one place.
+    pub fn same(self, other: Place) -> bool
+        ensures { λ r. ⌜ r ≡ filmPlaces .same self other ⌝ }
+    {
+        if self.film != other.film {
+            return false;
+        }
+        let point = self.point;
+        point.same(other.point)
+    }
+
+    // Whether this place is below the other, whatever their films.
+    pub fn below(self, other: Place) -> bool
+        ensures { λ r. ⌜ r ≡ filmPlaces .below self other ⌝ }
+    {
+        let point = self.point;
+        point.below(other.point)
+    }
+}
 
 // How many rows a slice has.
 pub fn rows_in(rows: &[i32]) -> usize
@@ -41,35 +71,38 @@ fn branch_at(rows: &[i32], r: usize, side: Side) -> usize
     }
 }
 
-// Whether a tip with these coordinates is at the place. Both are compared without a branch between: in a search nearly every tip is another one.
-fn is_at(x: i32, y: i32, place: Point) -> bool
-    ensures { λ t. ⌜ t ≡ isSame (record { x = x; y = y }) place ⌝ }
+// Whether coordinates are those of a point. Both are compared without a branch between: in a search nearly every tip is another one.
+fn is_at(x: i32, y: i32, point: Point) -> bool
+    ensures { λ t. ⌜ t ≡ isSame (record { x = x; y = y }) point ⌝ }
 {
-    let place_x = place.x;
-    let place_y = place.y;
-    (y == place_y) & (x == place_x)
+    let point_x = point.x;
+    let point_y = point.y;
+    (y == point_y) & (x == point_x)
 }
 
-// Whether a row is of the level, and its branch on the side is unfinished with its tip at the place. The tip is looked at first: level and finished mark
-// change from row to row, the tip is nearly always another one, so that the way past a row can be foreseen.
-fn has_tip(rows: &[i32], r: usize, level: u32, side: Side, tip: Point) -> bool
+// Whether a row is of the level, and its branch on the side is unfinished with its tip at the place. The point is looked at first: level, film and finished
+// mark change from row to row, the point is nearly always another one, so that the way past a row can be foreseen.
+fn has_tip(rows: &[i32], r: usize, level: u32, side: Side, tip: Place) -> bool
     requires { ⌜ HasRow (now rows) r × (level < 2147483647) ⌝ }
-    ensures { λ t. ⌜ t ≡ hasTip pointPlaces level side tip (lookRow (now (rows .entry)) r) ⌝ }
+    ensures { λ t. ⌜ t ≡ hasTip filmPlaces level side tip (lookRow (now (rows .entry)) r) ⌝ }
 {
     let b = branch_at(rows, r, side);
-    if !is_at(rows[b], rows[b + 1], tip) {
+    if !is_at(rows[b], rows[b + 1], tip.point) {
         return false;
     }
     if rows[b + 2] < 0 {
+        return false;
+    }
+    if rows[NUMBERS * r + FILM] != tip.film {
         return false;
     }
     rows[NUMBERS * r] == level as i32 + 1
 }
 
 // The first row below the peak with such a tip. Its mark says where to start.
-pub fn find(rows: &[i32], marks: &[u8], peak: usize, level: u32, side: Side, tip: Point) -> Found
+pub fn find(rows: &[i32], marks: &[u8], peak: usize, level: u32, side: Side, tip: Place) -> Found
     requires { ⌜ (level < 2147483647) × Marked (now marks) (now rows) peak ⌝ }
-    ensures { λ f. ⌜ f ≡ foundBelow (λ r. hasTip pointPlaces level side tip (lookRow (now (rows .entry)) r)) peak ⌝ }
+    ensures { λ f. ⌜ f ≡ foundBelow (λ r. hasTip filmPlaces level side tip (lookRow (now (rows .entry)) r)) peak ⌝ }
 {
     let n = laws::lower_of(peak, rows.len() / NUMBERS);
     let mut r = marks::start(marks, level, side, tip);
@@ -98,13 +131,15 @@ pub fn lowest_free(rows: &[i32], peak: usize) -> usize
 }
 
 // A row put into use, both tips at the place, both lengths 0, both branches unfinished.
-pub fn open_row(rows: &mut [i32], r: usize, level: u32, tip: Point)
+pub fn open_row(rows: &mut [i32], r: usize, level: u32, tip: Place)
     requires { ⌜ HasRow (now rows) r × (level < 2147483647) ⌝ }
     ensures { λ _. ⌜ now (rows .exit) ≡ openedIn (now (rows .entry)) r level tip ⌝ }
 {
     let b = NUMBERS * r;
-    let x = tip.x;
-    let y = tip.y;
+    let point = tip.point;
+    let x = point.x;
+    let y = point.y;
+    let film = tip.film;
     rows[b] = level as i32 + 1;
     rows[b + 1] = x;
     rows[b + 2] = y;
@@ -112,17 +147,18 @@ pub fn open_row(rows: &mut [i32], r: usize, level: u32, tip: Point)
     rows[b + 4] = x;
     rows[b + 5] = y;
     rows[b + 6] = 0;
-    rows[b + 7] = 0;
+    rows[b + FILM] = film;
 }
 
-// A branch's tip moved, with a new length, unfinished.
-pub fn move_tip(rows: &mut [i32], r: usize, side: Side, tip: Point, length: u32)
+// A branch's tip moved on its film, with a new length, unfinished.
+pub fn move_tip(rows: &mut [i32], r: usize, side: Side, tip: Place, length: u32)
     requires { ⌜ HasRow (now rows) r × (length < 2147483648) ⌝ }
     ensures { λ _. ⌜ now (rows .exit) ≡ movedIn (now (rows .entry)) r side tip length ⌝ }
 {
     let b = branch_at(rows, r, side);
-    let x = tip.x;
-    let y = tip.y;
+    let point = tip.point;
+    let x = point.x;
+    let y = point.y;
     rows[b] = x;
     rows[b + 1] = y;
     rows[b + 2] = length as i32;
@@ -177,15 +213,17 @@ pub fn length_of(rows: &[i32], r: usize, side: Side) -> u32
     length_in(rows[branch_at(rows, r, side) + 2])
 }
 
-pub fn tip_of(rows: &[i32], r: usize, side: Side) -> Point
+pub fn tip_of(rows: &[i32], r: usize, side: Side) -> Place
     requires { ⌜ HasRow (now rows) r ⌝ }
     ensures { λ p. ⌜ p ≡ on side (lookRow (now (rows .entry)) r .branch) .tip ⌝ }
 {
     let b = branch_at(rows, r, side);
-    Point {
+    let point = Point {
         x: rows[b],
         y: rows[b + 1],
-    }
+    };
+    let film = rows[NUMBERS * r + FILM];
+    Place { film, point }
 }
 
 pub fn both_finished(rows: &[i32], r: usize) -> bool

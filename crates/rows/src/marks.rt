@@ -1,6 +1,6 @@
 // Marks beside the rows: from which row on a search for a tip has to look; specs/Marks.antt says it. Most searches are for a tip that no row ever had, or
 // only the row that has it, and so they end at once.
-use sheet::Point;
+use crate::Place;
 use steps::Side;
 ghost use mathlib.Core.Path.{_≡_};
 ghost use Prim.Native.Nat.{_-_, _*_, _<_, max};
@@ -16,10 +16,11 @@ const MOST: usize = 255;
 const ROWS: usize = 4;
 
 // The slot of a tip.
-fn slot(level: u32, side: Side, tip: Point) -> usize
+fn slot(level: u32, side: Side, tip: Place) -> usize
     ensures { λ i. ⌜ (i ≡ slotOf level side tip) × (i < slots) ⌝ }
 {
-    let key = tip.rank() % 16_381 + (level as u64) * 1_021;
+    let point = tip.point;
+    let key = point.rank() % 16_381 + (level as u64) * 1_021;
     match side {
         Side::Rising => (key % 16_384) as usize,
         Side::Falling => ((key + 8_192) % 16_384) as usize,
@@ -34,7 +35,7 @@ fn row_of(mark: u8) -> usize
 }
 
 // The first row that a search for the tip has to look at.
-pub fn start(marks: &[u8], level: u32, side: Side, tip: Point) -> usize
+pub fn start(marks: &[u8], level: u32, side: Side, tip: Place) -> usize
     requires { ⌜ length (now marks) ≡ slots ⌝ }
     ensures { λ r. ⌜ r ≡ startAt (now (marks .entry)) (slotOf level side tip) ⌝ }
 {
@@ -49,7 +50,7 @@ fn higher_of(a: u8, b: u8) -> u8
 }
 
 // A row's tip marked, so that a search for it looks at the row.
-pub fn mark(marks: &mut [u8], level: u32, side: Side, tip: Point, r: usize)
+pub fn mark(marks: &mut [u8], level: u32, side: Side, tip: Place, r: usize)
     requires { ⌜ length (now marks) ≡ slots ⌝ }
     ensures { λ _. ⌜ now (marks .exit) ≡ markedIn (now (marks .entry)) (slotOf level side tip) r ⌝ }
 {

@@ -10,8 +10,8 @@ unfolding isSame
 returns c =
     let g = c .before .before .args in
     let f = c .before .before .fits in
-    let y = bits-sameZ (g .y) (g .place .y) (f .y .sfits) (c .struct-told2 .given .1 .0 .1) in
-    let x = bits-sameZ (g .x) (g .place .x) (f .x .sfits) (c .before .struct-told .given .0 .1) in
+    let y = bits-sameZ (g .y) (g .point .y) (f .y .sfits) (c .struct-told2 .given .1 .0 .1) in
+    let x = bits-sameZ (g .x) (g .point .x) (f .x .sfits) (c .before .struct-told .given .0 .1) in
     λ i. y i && x i
 
 pub is-at-spec : {M : Type 1} → statement M

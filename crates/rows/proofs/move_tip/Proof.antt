@@ -20,14 +20,14 @@ slice-set-from-rows c = simp length-set (omega arith)
 returns : tie.Need-returns
 unfolding movedIn
 returns c =
-    let a = c .before .before .before .before .args in
+    let a = c .before .before .before .before .before .args in
     rw (
-      ← c .before .before .branch-at .ensures .0,
-      read-back (a .tip .x) (c .before .struct-told .given .0 .1),
-      read-back (a .tip .y) (c .struct-told2 .given .1 .0 .1),
-      plain-read (a .length) (c .before .before .before .before .pre .1),
+      ← c .before .before .before .branch-at .ensures .0,
+      read-back (a .tip .point .x) (c .before .struct-told .given .0 .1),
+      read-back (a .tip .point .y) (c .struct-told2 .given .1 .0 .1),
+      plain-read (a .length) (c .before .before .before .before .before .pre .1),
     )
-    (stores-are-sets (a .rows .now) (c .before .before .branch-at .result) (a .tip .x) (a .tip .y ∷ pos (a .length) ∷ []))
+    (stores-are-sets (a .rows .now) (c .before .before .before .branch-at .result) (a .tip .point .x) (a .tip .point .y ∷ pos (a .length) ∷ []))
 
 pub move-tip-spec : {M : Type 1} → statement M
 move-tip-spec =

@@ -14,7 +14,7 @@ use Rattle.rows.proofs.open_row.Tie as tie
 use Rattle.steps.specs.Swept.{numbersPerRow}
 
 add-rows : tie.Need-add-rows
-add-rows c = mark-fits (c .before .before .args .level) (c .before .before .pre .1)
+add-rows c = mark-fits (c .before .before .before .before .args .level) (c .before .before .before .before .pre .1)
 
 slice-set-from-x : tie.Need-slice-set-from-x
 slice-set-from-x c = simp length-set (omega arith)
@@ -34,8 +34,8 @@ slice-set-from-y-2 c = simp length-set (omega arith)
 slice-set-of-rows-2 : tie.Need-slice-set-of-rows-2
 slice-set-of-rows-2 c = simp length-set (omega arith)
 
-slice-set-of-rows-3 : tie.Need-slice-set-of-rows-3
-slice-set-of-rows-3 c = simp length-set (omega arith)
+slice-set-from-film : tie.Need-slice-set-from-film
+slice-set-from-film c = simp length-set (omega arith)
 
 same-length : tie.Need-same-length
 same-length c = simp length-set (omega arith)
@@ -43,14 +43,15 @@ same-length c = simp length-set (omega arith)
 returns : tie.Need-returns
 unfolding openedIn
 returns c =
-    let a = c .before .before .args in
+    let a = c .before .before .before .before .args in
     rw (
-      mark-is (a .level) (c .before .before .pre .1),
-      read-back (pos (a .level + 1)) (omega (arith, c .before .before .pre .1)),
-      read-back (a .tip .x) (c .before .struct-told .given .0 .1),
-      read-back (a .tip .y) (c .struct-told2 .given .1 .0 .1),
+      mark-is (a .level) (c .before .before .before .before .pre .1),
+      read-back (pos (a .level + 1)) (omega (arith, c .before .before .before .before .pre .1)),
+      read-back (a .tip .point .x) (c .before .before .struct-told .given .0 .1),
+      read-back (a .tip .point .y) (c .before .struct-told2 .given .1 .0 .1),
+      read-back (a .tip .film) (c .struct-told3 .given .0 .1),
     )
-    (stores-are-sets (a .rows .now) (numbersPerRow * a .r) (pos (a .level + 1)) (a .tip .x ∷ a .tip .y ∷ pos 0 ∷ a .tip .x ∷ a .tip .y ∷ pos 0 ∷ pos 0 ∷ []))
+    (stores-are-sets (a .rows .now) (numbersPerRow * a .r) (pos (a .level + 1)) (a .tip .point .x ∷ a .tip .point .y ∷ pos 0 ∷ a .tip .point .x ∷ a .tip .point .y ∷ pos 0 ∷ a .tip .film ∷ []))
 
 pub open-row-spec : {M : Type 1} → statement M
 open-row-spec =
@@ -63,6 +64,6 @@ open-row-spec =
     (search needs) (search needs) slice-set-from-x-2
     (search needs) (search needs) slice-set-from-y-2
     (search needs) (search needs) slice-set-of-rows-2
-    (search needs) (search needs) slice-set-of-rows-3
+    (search needs) (search needs) slice-set-from-film
     same-length
     returns)
