@@ -10,7 +10,7 @@ use mir.ValLaws.{toZ-ofZ}
 use lib.ListN.{length}
 use lib.Signed.{mag}
 use borrow.Author.Tests.{lt-ltb, le-ltb, le-leb, lt-leb}
-use Rattle.sheet.specs.declared.Point.{Point}
+use Rattle.rows.specs.declared.Place.{Place}
 use Rattle.steps.specs.declared.Side.{Side}
 use Rattle.steps.specs.declared.Side.the-variants.{Rising, Falling}
 use Rattle.steps.specs.declared.End.the-variants.{Overrun}
@@ -92,7 +92,7 @@ module _ (a b : List ℤ) (s : Progress) (level : ℕ) (e : NamedEdge) where
       unfolding up.attach up.write up.move room rows.rowSlice journal.recordSlice
       attach-done hr hl eb ea ep = rw (← is, lt-ltb (s .records) (recordsIn b) hr, le-leb (n + e .falling + e .rising) mostLength hl, ea, eb, ep)
 
-module _ (a b : List ℤ) (s : Progress) (r level : ℕ) (p : Point) where
+module _ (a b : List ℤ) (s : Progress) (r level : ℕ) (p : Place) where
   pub opened : {a₁ : List ℤ} {q : Progress} → r ≡ up.lowestFree (lentRoom a b) (state a b s) → a₁ ≡ openedIn a r level p →
       q ≡ record { records = s .records; peak = max (s .peak) (r + 1); end = s .end } →
       state a₁ b q ≡ up.open-row (lentRoom a b) (state a b s) r level p

@@ -7,7 +7,7 @@ use native.Mathlib.Omega.{arith}
 use lib.Dec.{ltb}
 use lib.IntN.{ℤ, pos}
 use Rattle.laws.proofs.First.{first-le}
-use Rattle.sheet.specs.declared.Point.{Point}
+use Rattle.rows.specs.declared.Place.{Place}
 use Rattle.steps.specs.declared.Side.{Side}
 use Rattle.steps.specs.declared.End.the-variants.{Overrun}
 use Rattle.steps.specs.Rows.{LevelEdge, closing}
@@ -26,7 +26,7 @@ pub marked-by : {m : List ℕ} {a b : List ℤ} {p : Progress} {t : State (List 
 marked-by e M = rw (ap (λ (z : State (List ℤ) (List ℤ)). z .peak) e) M
 
 -- a closing edge's record keeps the peak
-pub closing-peak : (a b : List ℤ) (s : Progress) (level : ℕ) (e : LevelEdge Point) → up.close (lentRoom a b) (state a b s) level e .peak ≡ s .peak
+pub closing-peak : (a b : List ℤ) (s : Progress) (level : ℕ) (e : LevelEdge Place) → up.close (lentRoom a b) (state a b s) level e .peak ≡ s .peak
 unfolding up.close up.write
 closing-peak a b s level e = by (ltb (s .records) (lentRoom a b .records))
   where
@@ -35,7 +35,7 @@ closing-peak a b s level e = by (ltb (s .records) (lentRoom a b .records))
     by true = refl
     by false = refl
 
-module _ (a b : List ℤ) (s : Progress) (r level : ℕ) (p : Point) where
+module _ (a b : List ℤ) (s : Progress) (r level : ℕ) (p : Place) where
   -- the lowest free row is at most the peak
   pub lowest-low : r ≡ up.lowestFree (lentRoom a b) (state a b s) → r ≤ s .peak
   unfolding up.lowestFree room rows.rowSlice

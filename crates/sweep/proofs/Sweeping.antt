@@ -8,7 +8,7 @@ use native.Mathlib.Numerals.{add-one}
 use native.Mathlib.Omega.{arith}
 use lib.IntN.{ℤ}
 use lib.ListN.{length}
-use Rattle.sheet.specs.declared.Point.{Point}
+use Rattle.rows.specs.declared.Place.{Place}
 use Rattle.steps.specs.Rows.{LevelEdge}
 use Rattle.steps.specs.SweepUp as up
 use Rattle.steps.specs.SweepUp.{State, Sweep, start, levels}
@@ -20,7 +20,7 @@ use Rattle.sweep.specs.Slices.{room, lentRoom, state, edgeOf, isDone, sw
 use Rattle.sweep.proofs.Rooms.{same-room, stops, goes-on}
 use Rattle.steps.specs.Swept.{numbersPerRecord}
 
-module _ (a b : List ℤ) (list : ℕ → LevelEdge Point) where
+module _ (a b : List ℤ) (list : ℕ → LevelEdge Place) where
   pub next-edge : (i : ℕ) {a₁ b₁ : List ℤ} {w : Swept} → swept a₁ b₁ w ≡ up.sweepUp (lentRoom a b) list (start 0 a b) i →
       isDone (w .progress .end) ≡ true → length a₁ ≡ length a → length b₁ ≡ length b → {e : NamedEdge} → edgeOf e ≡ list i →
       {a₂ b₂ : List ℤ} {p : Progress} → state a₂ b₂ p ≡ up.treat (lentRoom a₁ b₁) levels 0 (state a₁ b₁ (w .progress)) (edgeOf e) →

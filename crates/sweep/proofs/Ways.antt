@@ -10,8 +10,7 @@ use lib.IntN.{ℤ}
 use lib.ListN.{length}
 use borrow.Author.Tests.{lt-ltb, le-ltb, eq-eqb, ne-eqb}
 use Rattle.laws.specs.Counting.{first}
-use Rattle.sheet.specs.declared.Point.{Point}
-use Rattle.sheet.specs.Points.{isSame}
+use Rattle.rows.specs.declared.Place.{Place}
 use Rattle.steps.specs.declared.Side.{Side}
 use Rattle.steps.specs.declared.Found.{Found}
 use Rattle.steps.specs.declared.Found.the-variants.{At, Nothing}
@@ -20,7 +19,7 @@ use Rattle.steps.specs.Rows.{otherSide, LevelEdge}
 use Rattle.steps.specs.SweepUp as up
 use Rattle.steps.specs.SweepUp.{State, foundBelow, hasTip, bothFinished}
 use Rattle.rows.specs.Layout as rows
-use Rattle.rows.specs.Layout.{pointPlaces, HasRow, lookRow, finishedIn, freedIn}
+use Rattle.rows.specs.Layout.{filmPlaces, HasRow, lookRow, finishedIn, freedIn}
 use Rattle.rows.proofs.Searching.{found-there}
 use Rattle.steps.specs.Swept.{rowsIn}
 use Rattle.sweep.specs.declared.Progress.{Progress}
@@ -29,7 +28,7 @@ use Rattle.sweep.specs.Slices.{room, lentRoom, state, edgeOf, isDone}
 use Rattle.sweep.proofs.Rooms.{same-room, stops, goes-on, lowest-is}
 
 abbrev Next : Type 0
-Next = State (List ℤ) (List ℤ) → LevelEdge Point → State (List ℤ) (List ℤ)
+Next = State (List ℤ) (List ℤ) → LevelEdge Place → State (List ℤ) (List ℤ)
 
 -- a row passed up
 module _ (a b : List ℤ) (next : Next) (s : Progress) (r : ℕ) {t : Bool} (h : t ≡ bothFinished (lookRow a r)) where
@@ -71,8 +70,8 @@ unfolding up.pickMeeting
 picked-at true f h = let z : _≡_ {A = ℕ} 0 1 = cc in absurd (omega arith)
 picked-at false f h = h
 
-pub met-there : (a : List ℤ) (level : ℕ) (side : Side) (p : Point) (peak : ℕ) (t : Bool) {f : Found} {q : ℕ} → f ≡ up.pickMeeting t (foundBelow (λ k. hasTip pointPlaces level side p (lookRow a k)) peak) → f ≡ At q → HasRow a q
-met-there a level side p peak t {f} {q} e n = found-there a level side p peak q (picked-at t (foundBelow (λ k. hasTip pointPlaces level side p (lookRow a k)) peak) (sym e ∙ n))
+pub met-there : (a : List ℤ) (level : ℕ) (side : Side) (p : Place) (peak : ℕ) (t : Bool) {f : Found} {q : ℕ} → f ≡ up.pickMeeting t (foundBelow (λ k. hasTip filmPlaces level side p (lookRow a k)) peak) → f ≡ At q → HasRow a q
+met-there a level side p peak t {f} {q} e n = found-there a level side p peak q (picked-at t (foundBelow (λ k. hasTip filmPlaces level side p (lookRow a k)) peak) (sym e ∙ n))
 
 -- steps 2 to 4 on a row
 module _ (a b : List ℤ) (left level : ℕ) (s : Progress) (above : ℕ) (side : Side) (e : NamedEdge) (r : ℕ) {a₁ b₁ : List ℤ} {p : Progress}
@@ -81,10 +80,10 @@ module _ (a b : List ℤ) (left level : ℕ) (s : Progress) (above : ℕ) (side 
   unfolding up.onRow
   row-stopped d = rw (← i) (sym (stops _ _ (p .end) d))
 
-  module _ (d : isDone (p .end) ≡ true) {other : Side} {top : Point} {f : Found} (os : other ≡ otherSide side) (ot : top ≡ up.bottom other (edgeOf e))
-      (of : f ≡ up.pickMeeting (e .apart) (foundBelow (λ k. hasTip pointPlaces level other top (lookRow a₁ k)) (p .peak))) where
+  module _ (d : isDone (p .end) ≡ true) {other : Side} {top : Place} {f : Found} (os : other ≡ otherSide side) (ot : top ≡ up.bottom other (edgeOf e))
+      (of : f ≡ up.pickMeeting (e .apart) (foundBelow (λ k. hasTip filmPlaces level other top (lookRow a₁ k)) (p .peak))) where
     met : up.meeting (lentRoom a b) (state a₁ b₁ p) level side (edgeOf e) ≡ f
-    unfolding up.meeting up.find room rows.rowSlice pointPlaces
+    unfolding up.meeting up.find room rows.rowSlice filmPlaces
     met = rw (of, ot, os)
 
     pub row-unmet : f ≡ Nothing → state a₁ b₁ p ≡ up.onRow (lentRoom a b) (up.treat (lentRoom a b) left above) (state a b s) level side (edgeOf e) r
@@ -103,10 +102,10 @@ module _ (a b : List ℤ) (left level : ℕ) (s : Progress) (above : ℕ) (side 
       row-met la lb j = rw (← i, met, n, finished) ((rw (same-room a b a₃ b₁ la lb) at j) ∙ sym (goes-on _ _ (p .end) d))
 
 -- an edge of any level
-module _ (a b : List ℤ) (left level : ℕ) (s : Progress) (e : NamedEdge) {t : Bool} (h : t ≡ isSame (e .tail) (e .head)) where
+module _ (a b : List ℤ) (left level : ℕ) (s : Progress) (e : NamedEdge) {t : Bool} (h : t ≡ filmPlaces .same (e .tail) (e .head)) where
   pub treat-closed : t ≡ true → {a₁ b₁ : List ℤ} {p : Progress} → state a₁ b₁ p ≡ up.close (lentRoom a b) (state a b s) level (edgeOf e) →
       state a₁ b₁ p ≡ up.treat (lentRoom a b) left level (state a b s) (edgeOf e)
-  unfolding up.treat room pointPlaces
+  unfolding up.treat room
   treat-closed k i = i ∙ sym (by left)
     where
       by : (n : ℕ) → up.treat (lentRoom a b) n level (state a b s) (edgeOf e) ≡ up.close (lentRoom a b) (state a b s) level (edgeOf e)
@@ -115,20 +114,20 @@ module _ (a b : List ℤ) (left level : ℕ) (s : Progress) (e : NamedEdge) {t :
 
   module _ (k : t ≡ false) where
     pub treat-none-left : left ≡ 0 → up.ended Overrun (state a b s) ≡ up.treat (lentRoom a b) left level (state a b s) (edgeOf e)
-    unfolding up.treat room pointPlaces
+    unfolding up.treat room
     treat-none-left z = rw (z, ← h, k)
 
 -- step 1 has searched: the edge's ends differ, a level is left, and f is what has its bottom for a tip
-pub record Searched (a b : List ℤ) (left level : ℕ) (s : Progress) (e : NamedEdge) (side : Side) (p : Point) (f : Found) : Type 0 where
-  pub apart : isSame (e .tail) (e .head) ≡ false
+pub record Searched (a b : List ℤ) (left level : ℕ) (s : Progress) (e : NamedEdge) (side : Side) (p : Place) (f : Found) : Type 0 where
+  pub apart : filmPlaces .same (e .tail) (e .head) ≡ false
   pub above : 0 < left
-  pub side-is : side ≡ up.sideOf pointPlaces (edgeOf e)
+  pub side-is : side ≡ up.sideOf filmPlaces (edgeOf e)
   pub bottom-is : p ≡ up.bottom side (edgeOf e)
-  pub found-is : f ≡ foundBelow (λ r. hasTip pointPlaces level side p (lookRow a r)) (s .peak)
+  pub found-is : f ≡ foundBelow (λ r. hasTip filmPlaces level side p (lookRow a r)) (s .peak)
 
-module _ {a b : List ℤ} {left level : ℕ} {s : Progress} {e : NamedEdge} {side : Side} {p : Point} {f : Found} (S : Searched a b left level s e side p f) where
+module _ {a b : List ℤ} {left level : ℕ} {s : Progress} {e : NamedEdge} {side : Side} {p : Place} {f : Found} (S : Searched a b left level s e side p f) where
   steps : up.treat (lentRoom a b) left level (state a b s) (edgeOf e) ≡ up.inChain (lentRoom a b) (up.treat (lentRoom a b) (left - 1) (level + 1)) (state a b s) level side (edgeOf e) f
-  unfolding up.treat up.stepsOn up.find room rows.rowSlice pointPlaces
+  unfolding up.treat up.stepsOn up.find room rows.rowSlice filmPlaces
   steps = by left (S .above)
     where
       by : (n : ℕ) → 0 < n →

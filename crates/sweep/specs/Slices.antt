@@ -1,18 +1,18 @@
--- The steps on the lent slices: places are points, a table of rows and a journal are slices of numbers. The code's own values, its progress and an edge
+-- The steps on the lent slices: places are points with films, a table of rows and a journal are slices of numbers. The code's own values, its progress and an edge
 -- with its name and lengths, as the steps have them.
 use Prim.Native.Nat.{ℕ}
 use mathlib.Core.Bool.{Bool, true, false}
 use mathlib.Core.List.{List}
 use lib.IntN.{ℤ}
-use Rattle.sheet.specs.declared.Point.{Point}
-use Rattle.sheet.specs.Rank.{rank}
+use Rattle.rows.specs.declared.Place.{Place}
+use Rattle.sheet.specs.Rank.{placeOn}
 use Rattle.sheet.specs.Edges.{edgeAt, drawingOf}
 use Rattle.steps.specs.declared.End.{End}
 use Rattle.steps.specs.declared.End.the-variants.{Done, NoFreeRow, Overrun}
 use Rattle.steps.specs.Rows.{LevelEdge, Room}
 use Rattle.steps.specs.SweepUp.{State, Sweep, listEdge}
 use Rattle.rows.specs.Layout as rows
-use Rattle.rows.specs.Layout.{pointPlaces}
+use Rattle.rows.specs.Layout.{onFilm, filmPlaces}
 use Rattle.steps.specs.Swept.{rowsIn}
 use Rattle.journal.specs.Layout as journal
 use Rattle.journal.specs.Layout.{recordsIn}
@@ -21,27 +21,27 @@ use Rattle.sweep.specs.declared.NamedEdge.{NamedEdge}
 use Rattle.sweep.specs.declared.Swept.{Swept}
 
 -- so many rows and records
-unfoldable pub room : ℕ → ℕ → Room Point (List ℤ) (List ℤ)
-room n m = record { places = pointPlaces; table = rows.rowSlice; journal = journal.recordSlice; rows = n; records = m }
+unfoldable pub room : ℕ → ℕ → Room Place (List ℤ) (List ℤ)
+room n m = record { places = filmPlaces; table = rows.rowSlice; journal = journal.recordSlice; rows = n; records = m }
 
 -- as many as two slices have
-abbrev pub lentRoom : List ℤ → List ℤ → Room Point (List ℤ) (List ℤ)
+abbrev pub lentRoom : List ℤ → List ℤ → Room Place (List ℤ) (List ℤ)
 lentRoom a b = room (rowsIn a) (recordsIn b)
 
 -- the code looks for rows only as far as they have been opened, and as the lowest free row is opened that is the peak: one number serves for both
 abbrev pub state : List ℤ → List ℤ → Progress → State (List ℤ) (List ℤ)
 state a b s = record { rows = a; journal = b; records = s .records; reach = s .peak; peak = s .peak; end = s .end }
 
-abbrev pub edgeOf : NamedEdge → LevelEdge Point
+abbrev pub edgeOf : NamedEdge → LevelEdge Place
 edgeOf e = record { name = e .name; tail = e .tail; head = e .head; length = record { rising = e .rising; falling = e .falling }; apart = e .apart }
 
--- which points of a list are apart
-unfoldable pub apartAt : List ℤ → Point → Bool
-apartAt s p = drawingOf s .apart (rank p)
+-- which places of a list are apart
+unfoldable pub apartAt : List ℤ → Place → Bool
+apartAt s p = drawingOf s .apart (placeOn (p .film) (p .point))
 
 -- the edges of a list at level 0
-abbrev pub listEdges : List ℤ → ℕ → LevelEdge Point
-listEdges s i = listEdge pointPlaces (apartAt s) i (edgeAt s i .tail) (edgeAt s i .head)
+abbrev pub listEdges : List ℤ → ℕ → LevelEdge Place
+listEdges s i = listEdge filmPlaces (apartAt s) i (onFilm (edgeAt s i .film) (edgeAt s i .tail)) (onFilm (edgeAt s i .film) (edgeAt s i .head))
 
 abbrev pub isDone : End → Bool
 isDone Done = true

@@ -4,7 +4,7 @@ pub mod down;
 mod treating;
 pub mod up;
 
-use sheet::Point;
+use rows::Place;
 use steps::End;
 use steps::Side;
 ghost use mathlib.Core.Path.{_≡_};
@@ -13,7 +13,7 @@ ghost use Prim.Native.Nat.{_+_, _≤_, _<_, max};
 ghost use lib.IntN.{ℤ};
 ghost use Rattle.steps.specs.Rows.{on};
 ghost use Rattle.steps.specs.SweepUp as up;
-ghost use Rattle.rows.specs.Layout.{pointPlaces};
+ghost use Rattle.rows.specs.Layout.{filmPlaces};
 ghost use Rattle.sweep.specs.Slices.{state, edgeOf, isDone};
 
 // How far a sweep up has come: the records written, the peak, and how the last treatment ended.
@@ -74,8 +74,8 @@ impl Progress {
 // An edge of any level: its name, its ends, its two lengths, and whether its top is apart.
 struct NamedEdge {
     name: usize,
-    tail: Point,
-    head: Point,
+    tail: Place,
+    head: Place,
     rising: u32,
     falling: u32,
     apart: bool,
@@ -84,7 +84,7 @@ struct NamedEdge {
 impl NamedEdge {
     // An up edge works on the rising side of its chain.
     fn side(self) -> Side
-        ensures { λ s. ⌜ s ≡ up.sideOf pointPlaces (edgeOf self) ⌝ }
+        ensures { λ s. ⌜ s ≡ up.sideOf filmPlaces (edgeOf self) ⌝ }
     {
         let tail = self.tail;
         if tail.below(self.head) {
@@ -95,7 +95,7 @@ impl NamedEdge {
     }
 
     // The lower end, where the edge works on the side; on the other side that is the higher end.
-    fn bottom(self, side: Side) -> Point
+    fn bottom(self, side: Side) -> Place
         ensures { λ p. ⌜ p ≡ up.bottom side (edgeOf self) ⌝ }
     {
         match side {

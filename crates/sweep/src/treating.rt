@@ -2,7 +2,7 @@
 // row that is finished on both sides. A row passed up is an edge of the next level, so treating calls itself one level up, with one level less left.
 use crate::NamedEdge;
 use crate::Progress;
-use sheet::Point;
+use rows::Place;
 use steps::End;
 use steps::Found;
 use steps::Side;
@@ -11,7 +11,7 @@ ghost use mathlib.Core.List.{List};
 ghost use Prim.Native.Nat.{_+_, _-_, _<_};
 ghost use lib.IntN.{ℤ};
 ghost use Rattle.steps.specs.SweepUp as up;
-ghost use Rattle.rows.specs.Layout.{pointPlaces, HasRow, lookRow};
+ghost use Rattle.rows.specs.Layout.{filmPlaces, HasRow, lookRow};
 ghost use Rattle.rows.specs.Marks.{Marked};
 ghost use Rattle.sweep.specs.Slices.{lentRoom, state, edgeOf};
 ghost use Rattle.steps.specs.SweepUp.{levels};
@@ -52,7 +52,7 @@ fn open_lowest(
     s: Progress,
     r: usize,
     level: u32,
-    tip: Point,
+    tip: Place,
 ) -> Progress
     requires { ⌜ HasRow (now rows) r × (level < 2147483647) × ((b : List ℤ) → r ≡ up.lowestFree (lentRoom (now rows) b) (state (now rows) b s)) ⌝ }
     requires { ⌜ Marked (now marks) (now rows) (s .peak) ⌝ }
@@ -125,11 +125,11 @@ fn meeting(
     peak: usize,
     level: u32,
     side: Side,
-    tip: Point,
+    tip: Place,
     apart: bool,
 ) -> Found
     requires { ⌜ (level < 2147483647) × Marked (now marks) (now rows) peak ⌝ }
-    ensures { λ f. ⌜ f ≡ up.pickMeeting apart (up.foundBelow (λ r. up.hasTip pointPlaces level side tip (lookRow (now (rows .entry)) r)) peak) ⌝ }
+    ensures { λ f. ⌜ f ≡ up.pickMeeting apart (up.foundBelow (λ r. up.hasTip filmPlaces level side tip (lookRow (now (rows .entry)) r)) peak) ⌝ }
 {
     if apart {
         return Found::Nothing;

@@ -3,6 +3,7 @@ use crate::NamedEdge;
 use crate::Progress;
 use crate::Swept;
 use crate::treating;
+use rows::Place;
 use sheet::Edge;
 use steps::End;
 ghost use mathlib.Core.Path.{_≡_};
@@ -18,12 +19,15 @@ const LEVELS: u32 = 12;
 
 // An edge of the list, named by its place: rising length 1, falling length 0. No place of a list is apart.
 fn list_edge(edges: &[i32], i: usize) -> NamedEdge
-    requires { ⌜ numbersPerEdge * i + 3 < length (now edges) ⌝ }
+    requires { ⌜ numbersPerEdge * i + 4 < length (now edges) ⌝ }
     ensures { λ e. ⌜ (edgeOf e ≡ listEdges (now (edges .entry)) i) × (e .falling ≡ 0) ⌝ }
 {
     let edge = Edge::at(edges, i);
-    let tail = edge.tail;
-    let head = edge.head;
+    let film = edge.film;
+    let from = edge.tail;
+    let tail = Place { film, point: from };
+    let to = edge.head;
+    let head = Place { film, point: to };
     NamedEdge {
         name: i,
         tail,

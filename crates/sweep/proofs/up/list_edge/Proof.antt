@@ -1,6 +1,7 @@
--- `sweep::up::list_edge` meets its contract. The edge of the list at its place.
+-- `sweep::up::list_edge` meets its contract. The edge of the list at its place, both ends on its film.
 use borrow.Author.Needs.{needs}
 use mathlib.Core.Path.{refl}
+use Rattle.laws.proofs.Bits.{read-back}
 use Rattle.sheet.specs.Edges.{drawingOf}
 use Rattle.sweep.specs.Slices.{apartAt}
 use Rattle.sweep.proofs.up.list_edge.Statement.{statement}
@@ -8,7 +9,9 @@ use Rattle.sweep.proofs.up.list_edge.Tie as tie
 
 returns : tie.Need-returns
 unfolding apartAt drawingOf
-returns c = rw (c .before .before .at .ensures) (refl, refl)
+returns c =
+    let edge = c .before .before .before .at in
+    rw (read-back (edge .result .film) (c .before .before .struct-told .given .1 .1 .0 .1), edge .ensures) (refl, refl)
 
 pub list-edge-spec : {M : Type 1} → statement M
 list-edge-spec = tie.close (tie.spec (search needs) returns)
