@@ -219,7 +219,7 @@ module _ {sh : Plan} (N : Lawful sh) {p m : ℕ} (E : Time sh p m) {G : Paths} {
   outs-of : (k : ℕ) → Outs sh k G → m ≡ suc (E .hand .0) → k ≡ m → Outs sh k H
   outs-of k O q e =
       let w = last-in-hand (E .hand .0) q refl in
-      rw (e ∙ q) (close-outs C (E .hand .0) (rw (e ∙ q) at O) x lx link (λ a i s. let l = E .low a (F .of-row a b i s) in rw (at-top Falling) (l Falling, l Rising)) (w .0) (w .1))
+      rw (e ∙ q) (close-outs C (E .hand .0) (rw (e ∙ q) at O) x lx link (λ a i s. rw (at-top Falling) (E .low a (F .of-row a b i s) Falling)) (w .0) (w .1))
 
   pub close-frame : Frame sh p m H M
   close-frame = record {

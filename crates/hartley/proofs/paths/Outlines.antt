@@ -1,4 +1,4 @@
--- The outlines closed so far, newest first: an outline's indices follow the joins round, none of its places is higher than its first edge's tail, and of two
+-- The outlines closed so far, newest first: an outline's indices follow the joins round, no edge of it leaves a higher place than its first, and of two
 -- outlines the newer one has its later top edge further on in the list. A merge leaves all this; a path that closes while the list's edge h is treated has h as one
 -- of its top edges, and no outline closed before has it.
 use mathlib.Core.Path.{_≡_, refl, ap}
@@ -22,7 +22,7 @@ pub record Outs (sh : Plan) (m : ℕ) (G : Paths) : Type 0 where
   pub last : (k i : ℕ) → k < G .rounds .count → suc i ≡ G .rounds .edges-in k → G .spot (G .rounds .rear k) ≡ out k i
   pub some : (k : ℕ) → k < G .rounds .count → 0 < G .rounds .edges-in k
   pub wrap : (k : ℕ) → k < G .rounds .count → sh .next (G .rounds .rear k) ≡ G .rounds .lead k
-  pub high : (e k i : ℕ) → G .spot e ≡ out k i → (height sh (sh .list .tail e) ≤ height sh (sh .list .tail (G .rounds .lead k))) × (height sh (sh .list .head e) ≤ height sh (sh .list .tail (G .rounds .lead k)))
+  pub high : (e k i : ℕ) → G .spot e ≡ out k i → height sh (sh .list .tail e) ≤ height sh (sh .list .tail (G .rounds .lead k))
   pub old : (k : ℕ) → k < G .rounds .count → mark G k < m
   pub order : (j k : ℕ) → j < k → k < G .rounds .count → mark G k < mark G j
 
@@ -67,7 +67,7 @@ shut-out a (on x j) k i e = go (same? x a) e
 
 -- a path that closes while the edge h is in hand
 module _ {sh : Plan} {G : Paths} (C : Chain sh G) (h : ℕ) (O : Outs sh (suc h) G) (a : Owner) (live : 0 < size G a) (link : 0 < size G a → sh .next (G .end Rising a) ≡ G .end Falling a)
-    (top : (e i : ℕ) → G .spot e ≡ on a i → (height sh (sh .list .tail e) ≤ height sh (sh .list .tail (G .end Falling a))) × (height sh (sh .list .head e) ≤ height sh (sh .list .tail (G .end Falling a))))
+    (top : (e i : ℕ) → G .spot e ≡ on a i → height sh (sh .list .tail e) ≤ height sh (sh .list .tail (G .end Falling a)))
     (hand : max (G .end Falling a) (G .end Rising a) ≡ h) (mine : (i : ℕ) × (G .spot h ≡ on a i)) where
   abbrev H : Paths
   H = closed G a
@@ -113,8 +113,7 @@ module _ {sh : Plan} {G : Paths} (C : Chain sh G) (h : ℕ) (O : Outs sh (suc h)
   wrap-of zero l = link live
   wrap-of (suc k) l = O .wrap k (omega arith)
 
-  high-of : (e : ℕ) {k i : ℕ} → Shut a (G .spot e) k i
-      → (height sh (sh .list .tail e) ≤ height sh (sh .list .tail (push (G .end Falling a) (G .rounds .lead) k))) × (height sh (sh .list .head e) ≤ height sh (sh .list .tail (push (G .end Falling a) (G .rounds .lead) k)))
+  high-of : (e : ℕ) {k i : ℕ} → Shut a (G .spot e) k i → height sh (sh .list .tail e) ≤ height sh (sh .list .tail (push (G .end Falling a) (G .rounds .lead) k))
   high-of e (now i p) = top e i p
   high-of e (ago k i p) = O .high e k i p
 

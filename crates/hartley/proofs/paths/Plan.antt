@@ -3,7 +3,7 @@
 use mathlib.Core.Path.{_≡_, ap, sym, _∙_}
 use mathlib.Core.Bool.{true, false, cond}
 use mathlib.Core.Logic.{inl, ⊎-elim}
-use Prim.Native.Nat.{ℕ, zero, suc, _+_, _-_, _≤_, _<_}
+use Prim.Native.Nat.{ℕ, _≤_, _<_}
 use native.Mathlib.Omega.{arith}
 use borrow.Author.Tests.{lt-ltb, le-ltb}
 use Rattle.laws.proofs.Deciding.{lt-or-le}
@@ -13,7 +13,7 @@ use Rattle.steps.specs.Rows.{otherSide}
 use Rattle.sheet.specs.Edges.{Drawing, topHeight}
 use Rattle.sheet.specs.Kinds.{Way, arriving, leaving, otherWay, below, above, endOf, comes}
 use Rattle.sheet.specs.Joining.{Follows}
-use Rattle.sheet.proofs.Checked.{Checked, Joins, joins}
+use Rattle.sheet.proofs.Checked.{Checked, tops-rise, Joins, joins}
 use Rattle.sheet.proofs.Following.{own-side-joins}
 
 pub record Plan : Type 0 where
@@ -95,11 +95,6 @@ module _ {sh : Drawing} (K : Checked sh) where
   abbrev J : Joins sh
   J = joins (K .sound)
 
-  -- tops never fall, not only from an edge to the next
-  rising-tops : (d e : ℕ) → e + d < sh .edges → topHeight sh e ≤ topHeight sh (e + d)
-  rising-tops zero e l = let q : e + 0 ≡ e = omega arith in rw q (omega arith)
-  rising-tops (suc d) e l = let q : e + suc d ≡ (e + d) + 1 = omega arith in rw q (omega (arith, rising-tops d e (omega arith), K .order (e + d) (omega arith)))
-
   -- where the place is apart, who arrives from below is followed by one that leaves upwards
   goes-up : (a : ℕ) → a < sh .edges → comes sh arriving a ≡ below → sh .apart (sh .head a) ≡ true → comes sh leaving (J .next a) ≡ above
   goes-up a l b o =
@@ -147,7 +142,7 @@ module _ {sh : Drawing} (K : Checked sh) where
     flat = K .flat;
     proper = K .proper;
     same-film = K .one-film;
-    order = λ e f h l. let q : e + (f - e) ≡ f = omega arith in rw q at (rising-tops (f - e) e (omega arith));
+    order = tops-rise sh (K .order);
     inside = λ e l. J .follows e l .next-is-edge;
     joint = λ e l. J .follows e l .meet;
     one-to-one = J .one-to-one;

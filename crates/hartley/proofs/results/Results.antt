@@ -3,7 +3,7 @@
 -- rows have been opened, `near`; they hold the same and count the same peak (steps/proofs/Reaching.antt).
 use mathlib.Core.Path.{_≡_, refl, sym, ap, _∙_}
 use mathlib.Core.Logic.{_⊎_, inl, inr, ⊎-elim}
-use Prim.Native.Nat.{ℕ, _+_, _*_, _≤_, _<_, max}
+use Prim.Native.Nat.{ℕ, _+_, _*_, _≤_, _<_}
 use native.Mathlib.Omega.{arith}
 use lib.IntN.{pos}
 use Rattle.laws.proofs.Deciding.{lt-or-le}
@@ -11,7 +11,7 @@ use Rattle.sheet.specs.Edges.{Drawing}
 use Rattle.sheet.specs.Joining.{Follows}
 use Rattle.sheet.specs.Numbering.{Numbering}
 use Rattle.sheet.specs.Passing.{Enough}
-use Rattle.sheet.proofs.Checked.{Checked, joins}
+use Rattle.sheet.proofs.Checked.{Checked}
 use Rattle.steps.specs.declared.End.the-variants.{Done, NoFreeRow}
 use Rattle.steps.specs.Rows.{Row, Record}
 use Rattle.steps.specs.SweepUp.{Sweep, start}
@@ -26,7 +26,7 @@ use Rattle.hartley.proofs.results.NearRun.{nearRun, readWith}
 use Rattle.hartley.proofs.results.PeakExact.{Cut, sweep-cut}
 use Rattle.hartley.proofs.step.Given.{Setting}
 use Rattle.hartley.proofs.results.SweepEnded.{Finished, sweep-ends, when-done}
-use Rattle.hartley.proofs.results.GivesNumbering.{later-first, gives-numbering, sequence-natural, records-few}
+use Rattle.hartley.proofs.results.GivesNumbering.{gives-numbering, sequence-natural, records-few}
 use Rattle.hartley.proofs.results.NumbersFit.{Fits, all-held}
 use Rattle.hartley.proofs.results.RowsEnough.{twelve-each, enough-rows}
 use Rattle.sheet.specs.Amounts.{mostEdges}
@@ -79,14 +79,9 @@ module _ {sh : Drawing} (K : Checked sh) (few : sh .edges ≤ mostEdges) where
         pub few-records : up .state .records + down .polygons ≤ 2 * sh .edges
         few-records = rw (← same .journal, ← same .records) (records-few A (near .state) F table answers)
 
-        -- of two polygons, the one whose later top edge stands later in the list has the smaller number; with films too
-        pub later-top-first : (e f : ℕ) → e < sh .edges → f < sh .edges → naturalPart (down .answers e .sequence) ≡ 0 → naturalPart (down .answers f .sequence) ≡ 0 → down .answers e .polygon < down .answers f .polygon
-            → max f (joins (K .sound) .prev f) < max e (joins (K .sound) .prev e)
-        later-top-first = rw (← same .journal, ← same .records) (later-first A (near .state) F table answers)
-
         -- demand 2
-        pub numbering : ((p q : ℕ) → sh .film p ≡ sh .film q) → Numbering sh (λ e. down .answers e .polygon) (λ e. naturalPart (down .answers e .sequence)) (down .polygons)
-        numbering one-film-only = rw (← same .journal, ← same .records) (gives-numbering A (near .state) F table answers one-film-only)
+        pub numbering : Numbering sh (λ e. down .answers e .polygon) (λ e. naturalPart (down .answers e .sequence)) (down .polygons)
+        numbering = rw (← same .journal, ← same .records) (gives-numbering A (near .state) F table answers)
 
         pub sequence-numbers : (e : ℕ) → e < sh .edges → (k : ℕ) × (k < sh .edges) × (down .answers e .sequence ≡ pos k)
         sequence-numbers = rw (← same .journal, ← same .records) (sequence-natural A (near .state) F table answers)
@@ -147,6 +142,6 @@ module _ {sh : Drawing} (K : Checked sh) (few : sh .edges ≤ mostEdges) where
           let z : _≡_ {A = ℕ} 0 1 = cc in
           omega arith
 
-  -- a checked list on one film has a numbering, and by crates/sheet only one
-  pub numbering-exists : ((p q : ℕ) → sh .film p ≡ sh .film q) → (polygon : ℕ → ℕ) × (sequence : ℕ → ℕ) × (polygons : ℕ) × Numbering sh polygon sequence polygons
-  numbering-exists one-film-only = (_, _, _, numbering (12 * sh .edges) (twelve-each-done (12 * sh .edges) (omega arith)) noPairs noPairs one-film-only)
+  -- a checked list has a numbering, and by crates/sheet only one
+  pub numbering-exists : (polygon : ℕ → ℕ) × (sequence : ℕ → ℕ) × (polygons : ℕ) × Numbering sh polygon sequence polygons
+  numbering-exists = (_, _, _, numbering (12 * sh .edges) (twelve-each-done (12 * sh .edges) (omega arith)) noPairs noPairs)
