@@ -15,11 +15,11 @@ use Rattle.laws.proofs.Deciding.{not-both}
 use Rattle.laws.proofs.First.{first-holds, first-least}
 use Rattle.laws.proofs.Searching.{NoneBelow, found-first, found-none}
 use Rattle.sheet.specs.declared.Refusal.{Refusal}
-use Rattle.sheet.specs.declared.Refusal.the-variants.{NotWhole, TooMany, ListsDiffer, JournalShort, PastRange, EqualEnds, TopFalls, Repeated, Uneven}
+use Rattle.sheet.specs.declared.Refusal.the-variants.{NotWhole, TooMany, ListsDiffer, JournalShort, PastRange, FilmPastRange, EqualEnds, TopFalls, Repeated, Uneven}
 use Rattle.sheet.specs.declared.Check.{Check}
 use Rattle.sheet.specs.declared.Check.the-variants.{Passed, Refused}
 use Rattle.sheet.specs.Edges.{edgesIn, drawingOf}
-use Rattle.sheet.specs.Answers.{Call, notWhole, tooMany, listsDiffer, journalShort, pastRange, equalEnds, topFalls, edgeFault, faultOf, repeats, uneven, refuseIf, refuseFirst, checked}
+use Rattle.sheet.specs.Answers.{Call, notWhole, tooMany, listsDiffer, journalShort, pastRange, filmPastRange, equalEnds, topFalls, edgeFault, faultOf, repeats, uneven, refuseIf, refuseFirst, checked}
 use Rattle.checks.specs.Stages.{placesChecked}
 use Rattle.checks.proofs.Answering.{refuse-here, refuse-not}
 
@@ -42,8 +42,9 @@ pub data Row (c : Call) : Check → Type 0 where
   row-3 : notWhole c ≡ false → tooMany c ≡ false → listsDiffer c ≡ true → Row c (Refused ListsDiffer)
   row-4 : notWhole c ≡ false → tooMany c ≡ false → listsDiffer c ≡ false → journalShort c ≡ true → Row c (Refused JournalShort)
   row-5 : {e : ℕ} → LengthsFit c → IsFirst (edgeFault (c .list)) (edgesIn (c .list)) e → pastRange (c .list) e ≡ true → Row c (Refused (PastRange e))
-  row-6 : {e : ℕ} → LengthsFit c → IsFirst (edgeFault (c .list)) (edgesIn (c .list)) e → pastRange (c .list) e ≡ false → equalEnds (c .list) e ≡ true → Row c (Refused (EqualEnds e))
-  row-7 : {e : ℕ} → LengthsFit c → IsFirst (edgeFault (c .list)) (edgesIn (c .list)) e → pastRange (c .list) e ≡ false → equalEnds (c .list) e ≡ false → topFalls (c .list) e ≡ true → Row c (Refused (TopFalls e))
+  row-16 : {e : ℕ} → LengthsFit c → IsFirst (edgeFault (c .list)) (edgesIn (c .list)) e → pastRange (c .list) e ≡ false → filmPastRange (c .list) e ≡ true → Row c (Refused (FilmPastRange e))
+  row-6 : {e : ℕ} → LengthsFit c → IsFirst (edgeFault (c .list)) (edgesIn (c .list)) e → pastRange (c .list) e ≡ false → filmPastRange (c .list) e ≡ false → equalEnds (c .list) e ≡ true → Row c (Refused (EqualEnds e))
+  row-7 : {e : ℕ} → LengthsFit c → IsFirst (edgeFault (c .list)) (edgesIn (c .list)) e → pastRange (c .list) e ≡ false → filmPastRange (c .list) e ≡ false → equalEnds (c .list) e ≡ false → topFalls (c .list) e ≡ true → Row c (Refused (TopFalls e))
   row-8 : {e : ℕ} → LengthsFit c → NoneBelow (edgeFault (c .list)) (edgesIn (c .list)) → IsFirst (repeats (drawingOf (c .list))) (edgesIn (c .list)) e → Row c (Refused (Repeated e))
   row-9 : {e : ℕ} → LengthsFit c → NoneBelow (edgeFault (c .list)) (edgesIn (c .list)) → NoneBelow (repeats (drawingOf (c .list))) (edgesIn (c .list)) → IsFirst (uneven (drawingOf (c .list))) (edgesIn (c .list)) e → Row c (Refused (Uneven e))
   no-row : LengthsFit c → NoneBelow (edgeFault (c .list)) (edgesIn (c .list)) → NoneBelow (repeats (drawingOf (c .list))) (edgesIn (c .list)) → NoneBelow (uneven (drawingOf (c .list))) (edgesIn (c .list)) → Row c Passed
@@ -60,18 +61,19 @@ module _ (P : Check → Type 0) where
       here : ltb (first test n) n ≡ true → P (Refused (refusal (first test n)))
       here h = let l : first test n < n = ltb-true _ _ h in a (first test n) (record { is-edge = l; holds = first-holds test n l; before = first-least test n })
 
--- which of 5, 6 and 7 the first edge with one of them has
+-- which of 5, 16, 6 and 7 the first edge with one of them has
 fault-row : (c : Call) (e : ℕ) → LengthsFit c → IsFirst (edgeFault (c .list)) (edgesIn (c .list)) e → Row c (Refused (faultOf (c .list) e))
-fault-row c e l f = by (pastRange s e) (equalEnds s e) (topFalls s e) refl refl refl (f .holds)
+fault-row c e l f = by (pastRange s e) (filmPastRange s e) (equalEnds s e) (topFalls s e) refl refl refl refl (f .holds)
   where
     s : List ℤ
     s = c .list
 
-    by : (x y z : Bool) → pastRange s e ≡ x → equalEnds s e ≡ y → topFalls s e ≡ z → (x || (y || z)) ≡ true → Row c (Refused (cond x (PastRange e) (cond y (EqualEnds e) (TopFalls e))))
-    by true y z p q r h = row-5 l f p
-    by false true z p q r h = row-6 l f p q
-    by false false true p q r h = row-7 l f p q r
-    by false false false p q r h = absurd (not-both h refl)
+    by : (w x y z : Bool) → pastRange s e ≡ w → filmPastRange s e ≡ x → equalEnds s e ≡ y → topFalls s e ≡ z → (w || (x || (y || z))) ≡ true → Row c (Refused (cond w (PastRange e) (cond x (FilmPastRange e) (cond y (EqualEnds e) (TopFalls e)))))
+    by true x y z p o q r h = row-5 l f p
+    by false true y z p o q r h = row-16 l f p o
+    by false false true z p o q r h = row-6 l f p o q
+    by false false false true p o q r h = row-7 l f p o q r
+    by false false false false p o q r h = absurd (not-both h refl)
 
 pub row : (c : Call) → Row c (checked c)
 unfolding checked
@@ -94,7 +96,7 @@ module _ (test : ℕ → Bool) (n : ℕ) (refusal : ℕ → Refusal) (rest : Che
   not-refused : NoneBelow test n → refuseFirst test n refusal rest ≡ rest
   not-refused h = sym (refuse-not test n n (found-none test h (omega arith)) refusal rest (omega arith))
 
--- what is tried after 1 to 4, and after 5 to 7
+-- what is tried after 1 to 4, and after 5, 16, 6 and 7
 module _ {c : Call} (l : LengthsFit c) where
   fault-given : {e : ℕ} → IsFirst (edgeFault (c .list)) (edgesIn (c .list)) e → checked c ≡ Refused (faultOf (c .list) e)
   unfolding checked
@@ -111,8 +113,9 @@ given (row-2 w m) = rw (w, m)
 given (row-3 w m o) = rw (w, m, o)
 given (row-4 w m o j) = rw (w, m, o, j)
 given (row-5 l f p) = fault-given l f ∙ rw p
-given (row-6 l f p q) = fault-given l f ∙ rw (p, q)
-given (row-7 l f p q t) = fault-given l f ∙ rw (p, q)
+given (row-16 l f p o) = fault-given l f ∙ rw (p, o)
+given (row-6 l f p o q) = fault-given l f ∙ rw (p, o, q)
+given (row-7 l f p o q t) = fault-given l f ∙ rw (p, o, q)
 given (row-8 l f h) = places-given l f ∙ refused-at _ _ Repeated _ h
 given (row-9 l f r h) = places-given l f ∙ not-refused _ _ Repeated _ r ∙ refused-at _ _ Uneven _ h
 given (no-row l f r u) = places-given l f ∙ not-refused _ _ Repeated _ r ∙ not-refused _ _ Uneven _ u

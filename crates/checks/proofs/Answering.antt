@@ -1,5 +1,5 @@
 -- `checked` by stages: the three of them in a row give its answer. Then each stage's answer where the code has compared the lengths, or has the first
--- edge of 5 to 7, of 8 and of 9; and what a stage that passes says of the list.
+-- edge of 5, 16, 6 or 7, of 8 and of 9; and what a stage that passes says of the list.
 use mathlib.Core.Path.{_≡_, refl, ap, _∙_}
 use mathlib.Core.Bool.{Bool, true, false, not}
 use mathlib.Core.List.{List}
@@ -121,7 +121,7 @@ no-fault s h k l = let m : edgesIn s ≤ first (edgeFault s) (edgesIn s) = ltb-f
 
 pub ends-fit : (s : List ℤ) → edgesIn s ≤ mostEdges → NoneBelow (edgeFault s) (edgesIn s) → EndsFit s (edgesIn s)
 unfolding edgesIn
-ends-fit s few none = record { all = refl; few = few; long = omega arith; in-range = λ e l. none-of s e (none e l) .0; two-ends = λ e l. none-of s e (none e l) .1 }
+ends-fit s few none = record { all = refl; few = few; long = omega arith; in-range = λ e l. none-of s e (none e l) .0; on-film = λ e l. none-of s e (none e l) .1; two-ends = λ e l. none-of s e (none e l) .2 }
 
 pub checked-fit : (s : List ℤ) → listChecked s ≡ Passed → edgesChecked s ≡ Passed → EndsFit s (edgesIn s)
 checked-fit s few h = ends-fit s (few-edges s few) (no-fault s h)

@@ -20,7 +20,7 @@ use Rattle.sheet.specs.Kinds.{Way, arriving, leaving, From, below, above, endOf
 use Rattle.sheet.specs.Answers.{sameFrom, sameKind, repeats, differ, uneven}
 use Rattle.checks.specs.declared.places.AtFault.{AtFault}
 use Rattle.checks.specs.Faults.{EndsFit}
-use Rattle.checks.specs.Ends.{wayNumber, fromNumber, placeNumber, wordOf, keyIn, placeIn, edgeIn, arrivesIn, Ordered}
+use Rattle.checks.specs.Ends.{wayNumber, fromNumber, wordOf, keyIn, placeIn, edgeIn, arrivesIn, Ordered}
 use Rattle.checks.specs.Places.{Walks, repeatsIn, arrivesAt, leavesAt, unevenAt, FoundSoFar, firstAtFault}
 use Rattle.checks.proofs.LeastEdge.{least-first}
 use Rattle.checks.proofs.Words.{from-small, way-small, word-edge, word-key, word-place, word-way}
@@ -86,7 +86,7 @@ module _ {s : List ℤ} {words : List ℕ} {n : ℕ} (E : EndsFit s n) (O : Orde
   -- 9: as many ends go a way at a place as edges do
   module _ (w : Way) (p : ℕ) where
     at-end : ℕ → Bool
-    at-end k = eqb (placeIn words k) (placeNumber p) && goesIn w words k
+    at-end k = eqb (placeIn words k) p && goesIn w words k
 
     no-more : count (λ e. eqb (endOf (drawingOf s) w e) p) n ≤ count at-end (2 * n)
     unfolding at-end
@@ -98,7 +98,7 @@ module _ {s : List ℤ} {words : List ℕ} {n : ℕ} (E : EndsFit s n) (O : Orde
         hole : (e : ℕ) → e < n → eqb (endOf (drawingOf s) w e) p ≡ true → (k : ℕ) × (k < 2 * n) × (at-end k ≡ true) × ((e < n) × (getD words k 0 ≡ wordOf s w e))
         hole e l t =
             let v = O .stands w e l in
-            let place : placeIn words (v .0) ≡ placeNumber p = ap (λ (x : ℕ). x / 16384) (v .2) ∙ word-place s w e (small l) ∙ ap placeNumber (eqb-true _ _ t) in
+            let place : placeIn words (v .0) ≡ p = ap (λ (x : ℕ). x / 16384) (v .2) ∙ word-place s w e (small l) ∙ eqb-true _ _ t in
             let way : getD words (v .0) 0 / 8192 % 2 ≡ wayNumber w = ap (λ (x : ℕ). x / 8192 % 2) (v .2) ∙ word-way s w e (small l) in
             (v .0, v .1, both (eq-eqb _ _ place) (goes-told w words (v .0) way), (l, v .2))
 
@@ -112,10 +112,10 @@ module _ {s : List ℤ} {words : List ℕ} {n : ℕ} (E : EndsFit s n) (O : Orde
         hole : (k : ℕ) → k < 2 * n → at-end k ≡ true → (e : ℕ) × (e < n) × (eqb (endOf (drawingOf s) w e) p ≡ true) × ((k < 2 * n) × (getD words k 0 ≡ wordOf s w e))
         hole k l t =
             let h = O .held k l in
-            let b = both-true (eqb (placeIn words k) (placeNumber p)) _ t in
+            let b = both-true (eqb (placeIn words k) p) _ t in
             let q : h .way ≡ w = one-way _ _ (sym (word-way s (h .way) (h .edge) (small (h .is-edge))) ∙ ap (λ (x : ℕ). x / 8192 % 2) (sym (h .told)) ∙ goes-way w words k (b .1)) in
             let told : getD words k 0 ≡ wordOf s w (h .edge) = h .told ∙ ap (λ (v : Way). wordOf s v (h .edge)) q in
-            let place : placeNumber (endOf (drawingOf s) w (h .edge)) ≡ placeNumber p = sym (word-place s w (h .edge) (small (h .is-edge))) ∙ ap (λ (x : ℕ). x / 16384) (sym told) ∙ eqb-true _ _ (b .0) in
+            let place : endOf (drawingOf s) w (h .edge) ≡ p = sym (word-place s w (h .edge) (small (h .is-edge))) ∙ ap (λ (x : ℕ). x / 16384) (sym told) ∙ eqb-true _ _ (b .0) in
             (h .edge, h .is-edge, eq-eqb (endOf (drawingOf s) w (h .edge)) p (omega arith), (l, told))
 
     number-told : numberAt (drawingOf s) w p ≡ count at-end (2 * n)
@@ -125,7 +125,7 @@ module _ {s : List ℤ} {words : List ℕ} {n : ℕ} (E : EndsFit s n) (O : Orde
   uneven-told : (w : Way) (e k : ℕ) → e < n → getD words k 0 ≡ wordOf s w e → unevenAt words (2 * n) k ≡ differ (drawingOf s) (endOf (drawingOf s) w e)
   unfolding unevenAt differ at-end
   uneven-told w e k l q =
-      let place : placeIn words k ≡ placeNumber (endOf (drawingOf s) w e) = ap (λ (x : ℕ). x / 16384) q ∙ word-place s w e (small l) in
+      let place : placeIn words k ≡ endOf (drawingOf s) w e = ap (λ (x : ℕ). x / 16384) q ∙ word-place s w e (small l) in
       ap (λ (x : ℕ). not (eqb (count (arrivesAt words x) (2 * n)) (count (leavesAt words x) (2 * n)))) place
       ∙ sym (rw (number-told arriving (endOf (drawingOf s) w e), number-told leaving (endOf (drawingOf s) w e)))
 

@@ -1,5 +1,5 @@
--- 5 to 7 at an edge. Tested against the edge before it, an edge has a fault where the answer sheet says so: no point of the range is below the lowest
--- one, which stands before the first edge. An edge without a fault has two ends, both in the range, and a top that does not fall.
+-- 5, 16, 6 and 7 at an edge. Tested against the edge before it, an edge has a fault where the answer sheet says so: no point of the range is below the lowest
+-- one, which stands before the first edge. An edge without a fault has two ends, both in the range, a film, and a top that does not fall.
 use mathlib.Core.Path.{_≡_, refl, sym, ap, _∙_}
 use mathlib.Core.Bool.{Bool, true, false, cond, _||_}
 use mathlib.Core.List.{List}
@@ -13,10 +13,10 @@ use Rattle.laws.proofs.Deciding.{both-true, neither-true}
 use Rattle.laws.proofs.Tests.{not-false}
 use Rattle.sheet.specs.declared.Point.{Point}
 use Rattle.sheet.specs.declared.Edge.{Edge}
-use Rattle.sheet.specs.Points.{sameZ, within, inRange, isSame, isBelow, isUp, topOf, bottomOf}
+use Rattle.sheet.specs.Points.{sameZ, within, inRange, isFilm, isSame, isBelow, isUp, topOf, bottomOf}
 use Rattle.sheet.specs.Edges.{edgeAt}
-use Rattle.sheet.specs.Answers.{pastRange, equalEnds, topFalls, edgeFault}
-use Rattle.checks.specs.Faults.{endPastRange, endsEqual, beforeFirst, faultAfter, edgeBefore, EndsFit}
+use Rattle.sheet.specs.Answers.{pastRange, filmPastRange, equalEnds, topFalls, edgeFault}
+use Rattle.checks.specs.Faults.{endPastRange, filmPast, endsEqual, beforeFirst, faultAfter, edgeBefore, EndsFit}
 
 not-under : (z : ℤ) → within z ≡ true → ltZ z (negsuc 999999) ≡ false
 unfolding within
@@ -50,12 +50,12 @@ ends-in-range e h = both-true (inRange (e .tail)) (inRange (e .head)) (not-false
 
 -- the top of the first edge is not below the lowest point, unless it is out of the range
 pub fault-after : (s : List ℤ) (e : ℕ) → faultAfter (edgeBefore s e) (edgeAt s e) ≡ edgeFault s e
-unfolding faultAfter edgeBefore endPastRange pastRange equalEnds topFalls
-fault-after s zero = by (endPastRange (edgeAt s 0)) (endsEqual (edgeAt s 0)) (λ h. let w = ends-in-range (edgeAt s 0) h in not-below-lowest _ (top-in-range (edgeAt s 0) (w .0) (w .1)))
+unfolding faultAfter edgeBefore endPastRange filmPast pastRange filmPastRange equalEnds topFalls
+fault-after s zero = by (endPastRange (edgeAt s 0)) (filmPast (edgeAt s 0)) (endsEqual (edgeAt s 0)) (λ h. let w = ends-in-range (edgeAt s 0) h in not-below-lowest _ (top-in-range (edgeAt s 0) (w .0) (w .1)))
   where
-    by : (past equal : Bool) {below : Bool} → (past ≡ false → below ≡ false) → (past || (equal || below)) ≡ (past || (equal || false))
-    by true equal h = refl
-    by false equal h = ap (λ (b : Bool). equal || b) (h refl)
+    by : (past film equal : Bool) {below : Bool} → (past ≡ false → below ≡ false) → (past || (film || (equal || below))) ≡ (past || (film || (equal || false)))
+    by true film equal h = refl
+    by false film equal h = ap (λ (b : Bool). film || (equal || b)) (h refl)
 fault-after s (suc e) = refl
 
 -- the edge before the next one
@@ -72,13 +72,21 @@ module _ (s : List ℤ) (e : ℕ) {edge : Edge} {r : Bool} (read : edge ≡ edge
   unfolding pastRange endPastRange
   past-told h = ap endPastRange (sym read) ∙ sym h
 
+  pub film-told : r ≡ filmPast edge → filmPastRange s e ≡ r
+  unfolding filmPastRange filmPast
+  film-told h = ap filmPast (sym read) ∙ sym h
+
   pub equal-told : r ≡ endsEqual edge → equalEnds s e ≡ r
   unfolding equalEnds
   equal-told h = ap endsEqual (sym read) ∙ sym h
 
--- 5 to 7 one by one
-pub none-of : (s : List ℤ) (e : ℕ) → edgeFault s e ≡ false → (pastRange s e ≡ false) × (equalEnds s e ≡ false) × (topFalls s e ≡ false)
-none-of s e none = let a = neither-true (pastRange s e) _ none in let b = neither-true (equalEnds s e) _ (a .1) in (a .0, b .0, b .1)
+-- 5, 16, 6 and 7 one by one
+pub none-of : (s : List ℤ) (e : ℕ) → edgeFault s e ≡ false → (pastRange s e ≡ false) × (filmPastRange s e ≡ false) × (equalEnds s e ≡ false) × (topFalls s e ≡ false)
+none-of s e none =
+    let a = neither-true (pastRange s e) _ none in
+    let b = neither-true (filmPastRange s e) _ (a .1) in
+    let d = neither-true (equalEnds s e) _ (b .1) in
+    (a .0, b .0, d .0, d .1)
 
 module _ {s : List ℤ} {n : ℕ} (E : EndsFit s n) (e : ℕ) (l : e < n) where
   pub tail-in : inRange (edgeAt s e .tail) ≡ true
@@ -88,6 +96,10 @@ module _ {s : List ℤ} {n : ℕ} (E : EndsFit s n) (e : ℕ) (l : e < n) where
   pub head-in : inRange (edgeAt s e .head) ≡ true
   unfolding pastRange endPastRange
   head-in = ends-in-range (edgeAt s e) (E .in-range e l) .1
+
+  pub film-in : isFilm (edgeAt s e .film) ≡ true
+  unfolding filmPastRange
+  film-in = not-false _ (E .on-film e l)
 
   pub ends-differ : isSame (edgeAt s e .tail) (edgeAt s e .head) ≡ false
   unfolding equalEnds

@@ -1,10 +1,10 @@
--- What every later step goes by: a call that passes the nine checks has its lists of the right lengths, every end in the range, and a checked sheet.
--- Each field of `Checked` is one of 5 to 9 that was not given; a place is its own height, so places of one height are one, and no place is apart.
+-- What every later step goes by: a call that passes the ten checks has its lists of the right lengths, every end and film in the range, and a checked sheet.
+-- Each field of `Checked` is one of 5 to 9 that was not given; a place is its height and its film, an edge has one film, and no place is apart.
 use mathlib.Core.Path.{_≡_, refl, sym, ap, _∙_}
 use mathlib.Core.Bool.{true, false}
 use mathlib.Core.List.{List}
 use mathlib.Core.Logic.{⊎-elim}
-use Prim.Native.Nat.{ℕ, suc, _+_, _*_, _%_, _≤_, _<_}
+use Prim.Native.Nat.{ℕ, suc, _+_, _*_, _/_, _%_, _≤_, _<_}
 use native.Mathlib.Numerals.{add-one}
 use native.Mathlib.Omega.{arith}
 use lib.IntN.{ℤ}
@@ -16,20 +16,21 @@ use Rattle.laws.proofs.Counting.{count-none}
 use Rattle.laws.proofs.First.{none-below}
 use Rattle.laws.proofs.Searching.{NoneBelow}
 use Rattle.sheet.specs.declared.Check.the-variants.{Passed}
-use Rattle.sheet.specs.Points.{inRange, topOf}
+use Rattle.sheet.specs.Points.{inRange, isFilm, topOf}
 use Rattle.sheet.specs.Rank.{rank}
 use Rattle.sheet.specs.Edges.{edgeAt, edgesIn, drawingOf, topHeight}
 use Rattle.sheet.specs.Sound.{SweepOrder}
 use Rattle.sheet.specs.Kinds.{Way, arriving, leaving, From, below, above, endOf, comes, numberAt}
 use Rattle.sheet.specs.Answers.{Call, notWhole, tooMany, listsDiffer, journalShort, topFalls, edgeFault, sameFrom, sameKind, repeats, differ, uneven, checked}
 use Rattle.sheet.proofs.Ranks.{rank-below, rank-same}
+use Rattle.sheet.proofs.Places.{place-is, height-of, film-of}
 use Rattle.sheet.proofs.Tops.{end-heights}
 use Rattle.sheet.proofs.Checked.{Checked}
 use Rattle.checks.specs.Faults.{EndsFit}
-use Rattle.checks.proofs.EdgeFaults.{top-in-range, none-of, tail-in, head-in, ends-differ}
+use Rattle.checks.proofs.EdgeFaults.{top-in-range, none-of, tail-in, head-in, film-in, ends-differ}
 use Rattle.checks.proofs.Answering.{ends-fit}
 use Rattle.checks.proofs.AnswerSheet.{LengthsFit, Row, no-row, exactly}
-use Rattle.sheet.specs.Amounts.{numbersPerEdge, journalNumbersPerEdge, mostEdges}
+use Rattle.sheet.specs.Amounts.{numbersPerEdge, films, journalNumbersPerEdge, mostEdges}
 
 pub record AllPassed (c : Call) : Type 0 where
   pub whole : length (c .list) ≡ numbersPerEdge * edgesIn (c .list)
@@ -39,6 +40,7 @@ pub record AllPassed (c : Call) : Type 0 where
   pub journal : journalNumbersPerEdge * edgesIn (c .list) ≤ c .journal
   pub tails-in-range : (e : ℕ) → e < edgesIn (c .list) → inRange (edgeAt (c .list) e .tail) ≡ true
   pub heads-in-range : (e : ℕ) → e < edgesIn (c .list) → inRange (edgeAt (c .list) e .head) ≡ true
+  pub films-in-range : (e : ℕ) → e < edgesIn (c .list) → isFilm (edgeAt (c .list) e .film) ≡ true
   pub sheet : Checked (drawingOf (c .list))
 
 -- 8 is not given: no two edges of one kind at one place
@@ -79,21 +81,27 @@ module _ (s : List ℤ) (level : NoneBelow (uneven (drawingOf s)) (edgesIn s)) (
   even : numberAt (drawingOf s) arriving p ≡ numberAt (drawingOf s) leaving p
   even = ⊎-elim (λ h. nobody h arriving ∙ sym (nobody h leaving)) differ-not (true-or-false (differ (drawingOf s) p))
 
--- 5 to 7 are not given
+-- 5, 16, 6 and 7 are not given
 module _ {s : List ℤ} (E : EndsFit s (edgesIn s)) (none : NoneBelow (edgeFault s) (edgesIn s)) where
   proper : (e : ℕ) → e < edgesIn s → drawingOf s .tail e ≡ drawingOf s .head e → ⊥
   unfolding drawingOf
-  proper e l q = not-both (rank-same _ _ (tail-in E e l) (head-in E e l) ∙ eq-eqb (rank (edgeAt s e .tail)) (rank (edgeAt s e .head)) q) (ends-differ E e l)
+  proper e l q =
+      let r : rank (edgeAt s e .tail) ≡ rank (edgeAt s e .head) = sym (height-of _ _ (film-in E e l)) ∙ ap (λ (p : ℕ). p / films) q ∙ height-of _ _ (film-in E e l) in
+      not-both (rank-same _ _ (tail-in E e l) (head-in E e l) ∙ eq-eqb _ _ r) (ends-differ E e l)
+
+  one-film : (e : ℕ) → e < edgesIn s → drawingOf s .film (drawingOf s .tail e) ≡ drawingOf s .film (drawingOf s .head e)
+  unfolding drawingOf
+  one-film e l = film-of _ _ (film-in E e l) ∙ sym (film-of _ _ (film-in E e l))
 
   top-height : (e : ℕ) → e < edgesIn s → rank (topOf (edgeAt s e)) ≡ topHeight (drawingOf s) e
-  top-height e l = end-heights s e (tail-in E e l) (head-in E e l) .top
+  top-height e l = end-heights s e (tail-in E e l) (head-in E e l) (film-in E e l) .top
 
   top-in : (e : ℕ) → e < edgesIn s → inRange (topOf (edgeAt s e)) ≡ true
   top-in e l = top-in-range _ (tail-in E e l) (head-in E e l)
 
   rises : (e : ℕ) → suc e < edgesIn s → rank (topOf (edgeAt s e)) ≤ rank (topOf (edgeAt s (suc e)))
   unfolding topFalls
-  rises e l = ltb-false _ _ (sym (rank-below _ _ (top-in (suc e) l) (top-in e (omega arith))) ∙ none-of s (suc e) (none (suc e) l) .2)
+  rises e l = ltb-false _ _ (sym (rank-below _ _ (top-in (suc e) l) (top-in e (omega arith))) ∙ none-of s (suc e) (none (suc e) l) .3)
 
   order : SweepOrder (drawingOf s)
   unfolding drawingOf
@@ -102,8 +110,8 @@ module _ {s : List ℤ} (E : EndsFit s (edgesIn s)) (none : NoneBelow (edgeFault
 pub sheet-checked : (s : List ℤ) → edgesIn s ≤ mostEdges → NoneBelow (edgeFault s) (edgesIn s) → NoneBelow (repeats (drawingOf s)) (edgesIn s) → NoneBelow (uneven (drawingOf s)) (edgesIn s) → Checked (drawingOf s)
 unfolding drawingOf
 sheet-checked s few none once level = record {
-  flat = λ p q f h. h;
-  one-film = λ e l. refl;
+  flat = place-is;
+  one-film = one-film (ends-fit s few none) none;
   proper = proper (ends-fit s few none) none;
   order = order (ends-fit s few none) none;
   sound = record { single = single s once; even = even s level };
@@ -139,6 +147,7 @@ all-passed c (no-row l f r u) =
       journal = long c l;
       tails-in-range = tail-in E;
       heads-in-range = head-in E;
+      films-in-range = film-in E;
       sheet = sheet-checked (c .list) (few c l) f r u;
     }
 

@@ -6,6 +6,7 @@ use mathlib.Core.List.{List}
 use mathlib.Core.Logic.{_⊎_, inl, inr, ⊎-elim}
 use Prim.Native.Nat.{ℕ, _+_, _-_, _*_, _/_, _%_, _≤_, _<_}
 use native.Mathlib.Omega.{arith}
+use lib.Dec.{ltb}
 use lib.IntN.{ℤ}
 use lib.ListN.{length, getD, set, length-set}
 use lib.Seq.{getD-set-same, getD-set-other}
@@ -15,16 +16,17 @@ use Rattle.laws.proofs.Deciding.{lt-or-le, not-both}
 use Rattle.sheet.specs.declared.Point.{Point}
 use Rattle.sheet.specs.declared.Edge.{Edge}
 use Rattle.sheet.specs.Points.{isBelow, isUp, topOf, bottomOf}
-use Rattle.sheet.specs.Rank.{rank}
+use Rattle.sheet.specs.Rank.{rank, placeOn}
 use Rattle.sheet.specs.Edges.{edgeAt, drawingOf}
 use Rattle.sheet.specs.Kinds.{Way, arriving, leaving, From, below, above, otherWay, endOf, comes}
-use Rattle.sheet.proofs.Ranks.{rank-below, rank-same}
+use Rattle.sheet.proofs.Ranks.{rank-same}
+use Rattle.sheet.proofs.Places.{place-below, height-of}
 use Rattle.sorting.specs.Sorted.{Sorted}
 use Rattle.sorting.proofs.Standing.{Different, old-stands, new-stood, strictly-rising}
 use Rattle.checks.specs.Faults.{EndsFit}
-use Rattle.checks.specs.Ends.{wayNumber, fromNumber, placeNumber, endWord, wordOf, wayIf, topWay, topWord, bottomWord, Packed, IsEnd, Ordered}
-use Rattle.checks.proofs.EdgeFaults.{tail-in, head-in, ends-differ}
-use Rattle.sheet.specs.Amounts.{mostEdges}
+use Rattle.checks.specs.Ends.{wayNumber, fromNumber, endWord, wordOf, wayIf, topWay, topWord, bottomWord, Packed, IsEnd, Ordered}
+use Rattle.checks.proofs.EdgeFaults.{tail-in, head-in, film-in, ends-differ}
+use Rattle.sheet.specs.Amounts.{films, mostEdges}
 
 pub from-small : (f : From) → fromNumber f ≤ 1
 from-small below = omega arith
@@ -40,18 +42,18 @@ module _ (s : List ℤ) (w : Way) (e : ℕ) (small : e < 4096) where
   unfolding wordOf
   word-edge = omega arith
 
-  pub word-key : wordOf s w e / 4096 ≡ placeNumber (endOf (drawingOf s) w e) * 4 + (2 * wayNumber w + fromNumber (comes (drawingOf s) w e))
+  pub word-key : wordOf s w e / 4096 ≡ endOf (drawingOf s) w e * 4 + (2 * wayNumber w + fromNumber (comes (drawingOf s) w e))
   unfolding wordOf
   word-key = omega arith
 
-  pub word-place : wordOf s w e / 16384 ≡ placeNumber (endOf (drawingOf s) w e)
+  pub word-place : wordOf s w e / 16384 ≡ endOf (drawingOf s) w e
   unfolding wordOf
   word-place = omega (arith, from-small (comes (drawingOf s) w e), way-small w)
 
   pub word-way : wordOf s w e / 8192 % 2 ≡ wayNumber w
   unfolding wordOf
   word-way =
-      let h : wordOf s w e / 8192 ≡ placeNumber (endOf (drawingOf s) w e) * 2 + wayNumber w = omega (arith, from-small (comes (drawingOf s) w e), way-small w) in
+      let h : wordOf s w e / 8192 ≡ endOf (drawingOf s) w e * 2 + wayNumber w = omega (arith, from-small (comes (drawingOf s) w e), way-small w) in
       omega (arith, h, way-small w)
 
 -- the words that are put together from what was read
@@ -62,32 +64,42 @@ module _ {s : List ℤ} {n : ℕ} (E : EndsFit s n) (e : ℕ) (l : e < n) where
   head : Point
   head = edgeAt s e .head
 
-  higher : isBelow tail head ≡ true → rank tail < rank head
-  unfolding tail head
-  higher u = ltb-true _ _ (sym (rank-below tail head (tail-in E e l) (head-in E e l)) ∙ u)
+  heightOf : Point → ℕ
+  heightOf p = placeOn (edgeAt s e .film) p / films
 
-  lower : isBelow tail head ≡ false → rank head < rank tail
+  ordered-ends : isBelow tail head ≡ ltb (heightOf tail) (heightOf head)
+  unfolding tail head heightOf
+  ordered-ends = place-below _ _ tail head (film-in E e l) (film-in E e l) (tail-in E e l) (head-in E e l)
+
+  level-ends : heightOf tail ≡ heightOf head → rank tail ≡ rank head
+  unfolding heightOf
+  level-ends q = sym (height-of _ tail (film-in E e l)) ∙ q ∙ height-of _ head (film-in E e l)
+
+  higher : isBelow tail head ≡ true → heightOf tail < heightOf head
+  higher u = ltb-true _ _ (sym ordered-ends ∙ u)
+
+  lower : isBelow tail head ≡ false → heightOf head < heightOf tail
   unfolding tail head
   lower u =
-      let le : rank head ≤ rank tail = ltb-false _ _ (sym (rank-below tail head (tail-in E e l) (head-in E e l)) ∙ u) in
-      ⊎-elim (λ h. h) (λ h. absurd (not-both (rank-same tail head (tail-in E e l) (head-in E e l) ∙ eq-eqb (rank tail) (rank head) (omega arith)) (ends-differ E e l))) (lt-or-le (rank head) (rank tail))
+      let le : heightOf head ≤ heightOf tail = ltb-false _ _ (sym ordered-ends ∙ u) in
+      ⊎-elim (λ h. h) (λ h. absurd (not-both (rank-same tail head (tail-in E e l) (head-in E e l) ∙ eq-eqb (rank tail) (rank head) (level-ends (omega arith))) (ends-differ E e l))) (lt-or-le (heightOf head) (heightOf tail))
 
-  module _ {edge : Edge} (read : edge ≡ edgeAt s e) {p : Point} {up : Bool} (way : up ≡ isUp edge) where
-    pub top-told : p ≡ topOf edge → endWord (rank p) (2 * bit up + 1) e ≡ topWord s e
-    unfolding wordOf topWay topOf isUp comes drawingOf tail head
-    top-told q = rw (q, way, read) (by (isBelow tail head) refl)
+  module _ {edge : Edge} (read : edge ≡ edgeAt s e) {film : ℤ} (on : film ≡ edge .film) {p : Point} {up : Bool} (way : up ≡ isUp edge) where
+    pub top-told : p ≡ topOf edge → endWord (placeOn film p) (2 * bit up + 1) e ≡ topWord s e
+    unfolding wordOf topWay topOf isUp comes drawingOf tail head heightOf
+    top-told q = rw (q, on, way, read) (by (isBelow tail head) refl)
       where
-        by : (u : Bool) → isBelow tail head ≡ u → endWord (rank (cond u head tail)) (2 * bit u + 1) e ≡ wordOf s (wayIf u) e
-        by true u = rw (lt-ltb (rank tail) (rank head) (higher u))
-        by false u = rw (lt-ltb (rank head) (rank tail) (lower u))
+        by : (u : Bool) → isBelow tail head ≡ u → endWord (placeOn (edgeAt s e .film) (cond u head tail)) (2 * bit u + 1) e ≡ wordOf s (wayIf u) e
+        by true u = rw (lt-ltb (heightOf tail) (heightOf head) (higher u))
+        by false u = rw (lt-ltb (heightOf head) (heightOf tail) (lower u))
 
-    pub bottom-told : p ≡ bottomOf edge → endWord (rank p) (2 * bit (not up)) e ≡ bottomWord s e
-    unfolding wordOf topWay bottomOf isUp comes drawingOf tail head
-    bottom-told q = rw (q, way, read) (by (isBelow tail head) refl)
+    pub bottom-told : p ≡ bottomOf edge → endWord (placeOn film p) (2 * bit (not up)) e ≡ bottomWord s e
+    unfolding wordOf topWay bottomOf isUp comes drawingOf tail head heightOf
+    bottom-told q = rw (q, on, way, read) (by (isBelow tail head) refl)
       where
-        by : (u : Bool) → isBelow tail head ≡ u → endWord (rank (cond u tail head)) (2 * bit (not u)) e ≡ wordOf s (otherWay (wayIf u)) e
-        by true u = rw (le-ltb (rank head) (rank tail) (omega (arith, higher u)))
-        by false u = rw (le-ltb (rank tail) (rank head) (omega (arith, lower u)))
+        by : (u : Bool) → isBelow tail head ≡ u → endWord (placeOn (edgeAt s e .film) (cond u tail head)) (2 * bit (not u)) e ≡ wordOf s (otherWay (wayIf u)) e
+        by true u = rw (le-ltb (heightOf head) (heightOf tail) (omega (arith, higher u)))
+        by false u = rw (le-ltb (heightOf tail) (heightOf head) (omega (arith, lower u)))
 
 -- one more edge packed
 pub packed-more : {s : List ℤ} {words : List ℕ} {n m top bottom : ℕ} → Packed s words n m → m < n → 2 * n ≤ length words → top ≡ topWord s m → bottom ≡ bottomWord s m → Packed s (set (set words m top) (n + m) bottom) n (m + 1)

@@ -1,20 +1,23 @@
--- 5 to 7 said of one edge and the edge before it, and the lists that the places can be told of.
+-- 5, 16, 6 and 7 said of one edge and the edge before it, and the lists that the places can be told of.
 use mathlib.Core.Path.{_≡_}
 use mathlib.Core.Bool.{Bool, false, not, cond, _&&_, _||_}
 use mathlib.Core.List.{List}
 use Prim.Native.Nat.{ℕ, zero, suc, _*_, _≤_, _<_}
-use lib.IntN.{ℤ, negsuc}
+use lib.IntN.{ℤ, pos, negsuc}
 use lib.ListN.{length}
 use Rattle.sheet.specs.declared.Edge.{Edge}
 use Rattle.sheet.specs.declared.Refusal.{Refusal}
-use Rattle.sheet.specs.declared.Refusal.the-variants.{PastRange, EqualEnds, TopFalls}
-use Rattle.sheet.specs.Points.{inRange, isSame, isBelow, topOf}
+use Rattle.sheet.specs.declared.Refusal.the-variants.{PastRange, FilmPastRange, EqualEnds, TopFalls}
+use Rattle.sheet.specs.Points.{inRange, isFilm, isSame, isBelow, topOf}
 use Rattle.sheet.specs.Edges.{edgeAt, edgesIn}
-use Rattle.sheet.specs.Answers.{pastRange, equalEnds}
+use Rattle.sheet.specs.Answers.{pastRange, filmPastRange, equalEnds}
 use Rattle.sheet.specs.Amounts.{numbersPerEdge, mostEdges}
 
 unfoldable pub endPastRange : Edge → Bool
 endPastRange e = not (inRange (e .tail) && inRange (e .head))
+
+unfoldable pub filmPast : Edge → Bool
+filmPast e = not (isFilm (e .film))
 
 abbrev pub endsEqual : Edge → Bool
 endsEqual e = isSame (e .tail) (e .head)
@@ -23,24 +26,25 @@ abbrev pub topBelow : Edge → Edge → Bool
 topBelow e before = isBelow (topOf e) (topOf before)
 
 unfoldable pub faultAfter : Edge → Edge → Bool
-faultAfter before e = endPastRange e || (endsEqual e || topBelow e before)
+faultAfter before e = endPastRange e || (filmPast e || (endsEqual e || topBelow e before))
 
 -- what stands before the first edge: both ends at the lowest point of the range
 abbrev pub beforeFirst : Edge
-beforeFirst = record { tail = record { x = negsuc 999999; y = negsuc 999999 }; head = record { x = negsuc 999999; y = negsuc 999999 } }
+beforeFirst = record { tail = record { x = negsuc 999999; y = negsuc 999999 }; head = record { x = negsuc 999999; y = negsuc 999999 }; film = pos 0 }
 
 unfoldable pub edgeBefore : List ℤ → ℕ → Edge
 edgeBefore s zero = beforeFirst
 edgeBefore s (suc e) = edgeAt s e
 
--- at an edge, 5 is tried before 6 and 6 before 7
-abbrev pub firstRefusal : Bool → Bool → ℕ → Refusal
-firstRefusal past equal e = cond past (PastRange e) (cond equal (EqualEnds e) (TopFalls e))
+-- at an edge, 5 is tried before 16, 16 before 6 and 6 before 7
+abbrev pub firstRefusal : Bool → Bool → Bool → ℕ → Refusal
+firstRefusal past film equal e = cond past (PastRange e) (cond film (FilmPastRange e) (cond equal (EqualEnds e) (TopFalls e)))
 
--- A list of n edges that passes 2, 5 and 6: its ends fit into words, and each edge has two. Whether the tops fall is not asked.
+-- A list of n edges that passes 2, 5, 16 and 6: its ends fit into words, and each edge has two. Whether the tops fall is not asked.
 pub record EndsFit (s : List ℤ) (n : ℕ) : Type 0 where
   pub all : n ≡ edgesIn s
   pub few : n ≤ mostEdges
   pub long : numbersPerEdge * n ≤ length s
   pub in-range : (e : ℕ) → e < n → pastRange s e ≡ false
+  pub on-film : (e : ℕ) → e < n → filmPastRange s e ≡ false
   pub two-ends : (e : ℕ) → e < n → equalEnds s e ≡ false

@@ -26,7 +26,7 @@ listChecked s = refuseIf (not (eqb (length s % numbersPerEdge) 0)) NotWhole (ref
 unfoldable pub lengthsChecked : Call → Check
 lengthsChecked c = andThen (listChecked (c .list)) (refuseIf (listsDiffer c) ListsDiffer (refuseIf (journalShort c) JournalShort Passed))
 
--- 5 to 7
+-- 5, 16, 6 and 7
 unfoldable pub edgesChecked : List ℤ → Check
 edgesChecked s = refuseFirst (edgeFault s) (edgesIn s) (faultOf s) Passed
 

@@ -1,4 +1,4 @@
-// 5 to 7: what is wrong with one edge, or with its top after the top of the edge before.
+// 5, 16, 6 and 7: what is wrong with one edge, or with its top after the top of the edge before.
 use sheet::Check;
 use sheet::Edge;
 use sheet::Point;
@@ -9,7 +9,7 @@ ghost use lib.ListN.{length};
 ghost use Rattle.laws.specs.Counting.{first};
 ghost use Rattle.sheet.specs.Edges.{edgesIn};
 ghost use Rattle.sheet.specs.Answers.{edgeFault, faultOf};
-ghost use Rattle.checks.specs.Faults.{endPastRange, endsEqual, topBelow, beforeFirst, faultAfter, firstRefusal};
+ghost use Rattle.checks.specs.Faults.{endPastRange, filmPast, endsEqual, topBelow, beforeFirst, faultAfter, firstRefusal};
 ghost use Rattle.checks.specs.Stages.{edgesChecked};
 ghost use Rattle.sheet.specs.Amounts.{numbersPerEdge, mostEdges};
 
@@ -23,6 +23,13 @@ pub fn past_range(edge: Edge) -> bool
         return !head.in_range();
     }
     true
+}
+
+// 16: the film is out of its range.
+pub fn film_past_range(edge: Edge) -> bool
+    ensures { λ r. ⌜ r ≡ filmPast edge ⌝ }
+{
+    !edge.film_in_range()
 }
 
 // 6: both ends are one point.
@@ -43,11 +50,14 @@ pub fn top_falls(edge: Edge, before: Edge) -> bool
     top.below(last)
 }
 
-// Whether an edge that stands after another has 5, 6 or 7.
+// Whether an edge that stands after another has 5, 16, 6 or 7.
 fn has_fault(edge: Edge, before: Edge) -> bool
     ensures { λ r. ⌜ r ≡ faultAfter before edge ⌝ }
 {
     if past_range(edge) {
+        return true;
+    }
+    if film_past_range(edge) {
         return true;
     }
     if equal_ends(edge) {
@@ -67,10 +77,11 @@ fn before_first() -> Edge
     Edge {
         tail: lowest,
         head: lowest,
+        film: 0,
     }
 }
 
-// The first of n edges with 5, 6 or 7, n where there is none.
+// The first of n edges with 5, 16, 6 or 7, n where there is none.
 fn first_fault(edges: &[i32], n: usize) -> usize
     requires { ⌜ numbersPerEdge * n ≤ length (now edges) ⌝ }
     ensures { λ r. ⌜ r ≡ first (edgeFault (now (edges .entry))) n ⌝ }
@@ -88,12 +99,15 @@ fn first_fault(edges: &[i32], n: usize) -> usize
     n
 }
 
-// 5 before 6, and 7 where it is neither.
-fn first_refusal(past: bool, equal: bool, place: u32) -> Refusal
-    ensures { λ r. ⌜ r ≡ firstRefusal past equal place ⌝ }
+// 5 before 16, 16 before 6, and 7 where it is none of them.
+fn first_refusal(past: bool, film: bool, equal: bool, place: u32) -> Refusal
+    ensures { λ r. ⌜ r ≡ firstRefusal past film equal place ⌝ }
 {
     if past {
         return Refusal::PastRange(place);
+    }
+    if film {
+        return Refusal::FilmPastRange(place);
     }
     if equal {
         return Refusal::EqualEnds(place);
@@ -101,16 +115,16 @@ fn first_refusal(past: bool, equal: bool, place: u32) -> Refusal
     Refusal::TopFalls(place)
 }
 
-// Which of the three an edge has that has one.
+// Which of the four an edge has that has one.
 fn fault_of(edges: &[i32], e: usize) -> Refusal
-    requires { ⌜ (numbersPerEdge * e + 3 < length (now edges)) × (e < 4096) ⌝ }
+    requires { ⌜ (numbersPerEdge * e + 4 < length (now edges)) × (e < 4096) ⌝ }
     ensures { λ r. ⌜ r ≡ faultOf (now (edges .entry)) e ⌝ }
 {
     let edge = Edge::at(edges, e);
-    first_refusal(past_range(edge), equal_ends(edge), e as u32)
+    first_refusal(past_range(edge), film_past_range(edge), equal_ends(edge), e as u32)
 }
 
-// 5 to 7 of a list that passes 2.
+// 5, 16, 6 and 7 of a list that passes 2.
 pub fn check(edges: &[i32]) -> Check
     requires { ⌜ edgesIn (now edges) ≤ mostEdges ⌝ }
     ensures { λ r. ⌜ r ≡ edgesChecked (now (edges .entry)) ⌝ }

@@ -1,5 +1,5 @@
-// The checks before the sweeps: refusals 1 to 9, in the paper's order. What the answer is, `checked` of the crate sheet says.
-// They come in three stages, each of which can be called alone: the lengths (1 to 4), the edges one by one (5 to 7), the places (8 and 9).
+// The checks before the sweeps: refusals 1 to 9 and 16, in the paper's order. What the answer is, `checked` of the crate sheet says.
+// They come in three stages, each of which can be called alone: the lengths (1 to 4), the edges one by one (5, 16, 6 and 7), the places (8 and 9).
 mod ends;
 pub mod faults;
 pub mod lengths;
@@ -13,7 +13,7 @@ ghost use Rattle.sheet.specs.Answers.{checked};
 // The most edges that a list holds.
 const MOST_EDGES: usize = Edge::MOST;
 
-// What the nine checks answer. Only the lengths of the other lists matter here, and nothing is written.
+// What the ten checks answer. Only the lengths of the other lists matter here, and nothing is written.
 pub fn check(edges: &[i32], polygons: usize, sequences: usize, journal: usize) -> Check
     ensures { λ r. ⌜ r ≡ checked (record { list = now (edges .entry); polygons = polygons; sequences = sequences; journal = journal }) ⌝ }
 {

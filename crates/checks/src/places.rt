@@ -150,7 +150,7 @@ pub fn first_at_fault(edges: &[i32]) -> AtFault
     walk(&words, 2 * n, n)
 }
 
-// 8 over the whole list, then 9, of a list that passes 2, 5 and 6.
+// 8 over the whole list, then 9, of a list that passes 2, 5, 16 and 6.
 pub fn check(edges: &[i32]) -> Check
     requires { ⌜ EndsFit (now edges) (edgesIn (now edges)) ⌝ }
     ensures { λ r. ⌜ r ≡ placesChecked (now (edges .entry)) ⌝ }
