@@ -84,18 +84,18 @@ module _ {s : List ℤ} {n : ℕ} (E : EndsFit s n) (e : ℕ) (l : e < n) where
       let le : heightOf head ≤ heightOf tail = ltb-false _ _ (sym ordered-ends ∙ u) in
       ⊎-elim (λ h. h) (λ h. absurd (not-both (rank-same tail head (tail-in E e l) (head-in E e l) ∙ eq-eqb (rank tail) (rank head) (level-ends (omega arith))) (ends-differ E e l))) (lt-or-le (heightOf head) (heightOf tail))
 
-  module _ {edge : Edge} (read : edge ≡ edgeAt s e) {film : ℤ} (on : film ≡ edge .film) {p : Point} {up : Bool} (way : up ≡ isUp edge) where
-    pub top-told : p ≡ topOf edge → endWord (placeOn film p) (2 * bit up + 1) e ≡ topWord s e
+  module _ {edge : Edge} (read : edge ≡ edgeAt s e) {p : Point} {up : Bool} (way : up ≡ isUp edge) where
+    pub top-told : p ≡ topOf edge → endWord (placeOn (edge .film) p) (2 * bit up + 1) e ≡ topWord s e
     unfolding wordOf topWay topOf isUp comes drawingOf tail head heightOf
-    top-told q = rw (q, on, way, read) (by (isBelow tail head) refl)
+    top-told q = rw (q, way, read) (by (isBelow tail head) refl)
       where
         by : (u : Bool) → isBelow tail head ≡ u → endWord (placeOn (edgeAt s e .film) (cond u head tail)) (2 * bit u + 1) e ≡ wordOf s (wayIf u) e
         by true u = rw (lt-ltb (heightOf tail) (heightOf head) (higher u))
         by false u = rw (lt-ltb (heightOf head) (heightOf tail) (lower u))
 
-    pub bottom-told : p ≡ bottomOf edge → endWord (placeOn film p) (2 * bit (not up)) e ≡ bottomWord s e
+    pub bottom-told : p ≡ bottomOf edge → endWord (placeOn (edge .film) p) (2 * bit (not up)) e ≡ bottomWord s e
     unfolding wordOf topWay bottomOf isUp comes drawingOf tail head heightOf
-    bottom-told q = rw (q, on, way, read) (by (isBelow tail head) refl)
+    bottom-told q = rw (q, way, read) (by (isBelow tail head) refl)
       where
         by : (u : Bool) → isBelow tail head ≡ u → endWord (placeOn (edgeAt s e .film) (cond u tail head)) (2 * bit (not u)) e ≡ wordOf s (otherWay (wayIf u)) e
         by true u = rw (le-ltb (heightOf head) (heightOf tail) (omega (arith, higher u)))

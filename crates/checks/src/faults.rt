@@ -121,7 +121,12 @@ fn fault_of(edges: &[i32], e: usize) -> Refusal
     ensures { λ r. ⌜ r ≡ faultOf (now (edges .entry)) e ⌝ }
 {
     let edge = Edge::at(edges, e);
-    first_refusal(past_range(edge), film_past_range(edge), equal_ends(edge), e as u32)
+    first_refusal(
+        past_range(edge),
+        film_past_range(edge),
+        equal_ends(edge),
+        e as u32,
+    )
 }
 
 // 5, 16, 6 and 7 of a list that passes 2.
