@@ -116,7 +116,7 @@ module _ {s : List ℤ} {words : List ℕ} {n : ℕ} (E : EndsFit s n) (O : Orde
             let q : h .way ≡ w = one-way _ _ (sym (word-way s (h .way) (h .edge) (small (h .is-edge))) ∙ ap (λ (x : ℕ). x / 8192 % 2) (sym (h .told)) ∙ goes-way w words k (b .1)) in
             let told : getD words k 0 ≡ wordOf s w (h .edge) = h .told ∙ ap (λ (v : Way). wordOf s v (h .edge)) q in
             let place : endOf (drawingOf s) w (h .edge) ≡ p = sym (word-place s w (h .edge) (small (h .is-edge))) ∙ ap (λ (x : ℕ). x / 16384) (sym told) ∙ eqb-true _ _ (b .0) in
-            (h .edge, h .is-edge, eq-eqb (endOf (drawingOf s) w (h .edge)) p (omega arith), (l, told))
+            (h .edge, h .is-edge, eq-eqb (endOf (drawingOf s) w (h .edge)) p place, (l, told))
 
     number-told : numberAt (drawingOf s) w p ≡ count at-end (2 * n)
     unfolding numberAt drawingOf

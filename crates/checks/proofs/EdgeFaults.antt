@@ -50,7 +50,7 @@ ends-in-range e h = both-true (inRange (e .tail)) (inRange (e .head)) (not-false
 
 -- the top of the first edge is not below the lowest point, unless it is out of the range
 pub fault-after : (s : List ℤ) (e : ℕ) → faultAfter (edgeBefore s e) (edgeAt s e) ≡ edgeFault s e
-unfolding faultAfter edgeBefore endPastRange filmPast pastRange filmPastRange equalEnds topFalls
+unfolding faultAfter edgeBefore endPastRange pastRange filmPastRange equalEnds topFalls
 fault-after s zero = by (endPastRange (edgeAt s 0)) (filmPast (edgeAt s 0)) (endsEqual (edgeAt s 0)) (λ h. let w = ends-in-range (edgeAt s 0) h in not-below-lowest _ (top-in-range (edgeAt s 0) (w .0) (w .1)))
   where
     by : (past film equal : Bool) {below : Bool} → (past ≡ false → below ≡ false) → (past || (film || (equal || below))) ≡ (past || (film || (equal || false)))
@@ -73,7 +73,7 @@ module _ (s : List ℤ) (e : ℕ) {edge : Edge} {r : Bool} (read : edge ≡ edge
   past-told h = ap endPastRange (sym read) ∙ sym h
 
   pub film-told : r ≡ filmPast edge → filmPastRange s e ≡ r
-  unfolding filmPastRange filmPast
+  unfolding filmPastRange
   film-told h = ap filmPast (sym read) ∙ sym h
 
   pub equal-told : r ≡ endsEqual edge → equalEnds s e ≡ r

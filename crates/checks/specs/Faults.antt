@@ -16,7 +16,7 @@ use Rattle.sheet.specs.Amounts.{numbersPerEdge, mostEdges}
 unfoldable pub endPastRange : Edge → Bool
 endPastRange e = not (inRange (e .tail) && inRange (e .head))
 
-unfoldable pub filmPast : Edge → Bool
+abbrev pub filmPast : Edge → Bool
 filmPast e = not (isFilm (e .film))
 
 abbrev pub endsEqual : Edge → Bool
@@ -40,7 +40,7 @@ edgeBefore s (suc e) = edgeAt s e
 abbrev pub firstRefusal : Bool → Bool → Bool → ℕ → Refusal
 firstRefusal past film equal e = cond past (PastRange e) (cond film (FilmPastRange e) (cond equal (EqualEnds e) (TopFalls e)))
 
--- A list of n edges that passes 2, 5, 16 and 6: its ends fit into words, and each edge has two. Whether the tops fall is not asked.
+-- A list of n edges that passes 2, 5, 16 and 6: its ends and films fit into words, and each edge has two ends. Whether the tops fall is not asked.
 pub record EndsFit (s : List ℤ) (n : ℕ) : Type 0 where
   pub all : n ≡ edgesIn s
   pub few : n ≤ mostEdges

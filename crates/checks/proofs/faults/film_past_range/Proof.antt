@@ -2,12 +2,10 @@
 use mathlib.Core.Path.{ap}
 use mathlib.Core.Bool.{not}
 use borrow.Author.Needs.{needs}
-use Rattle.checks.specs.Faults.{filmPast}
 use Rattle.checks.proofs.faults.film_past_range.Statement.{statement}
 use Rattle.checks.proofs.faults.film_past_range.Tie as tie
 
 returns : tie.Need-returns
-unfolding filmPast
 returns c = ap not (c .film-in-range .ensures)
 
 pub film-past-range-spec : {M : Type 1} → statement M
