@@ -1,5 +1,5 @@
--- 5, 16, 6 and 7 at an edge. Tested against the edge before it, an edge has a fault where the answer sheet says so: no point of the range is below the lowest
--- one, which stands before the first edge. An edge without a fault has two ends, both in the range, a film, and a top that does not fall.
+-- 5, 16, 6 and 7 at an edge. Tested against the edge before it, an edge has a fault where the answer sheet says so: no point of the range is below
+-- the lowest one, which stands before the first edge. An edge without a fault has two ends, both in the range, a film, and a top that does not fall.
 use mathlib.Core.Path.{_≡_, refl, sym, ap, _∙_}
 use mathlib.Core.Bool.{Bool, true, false, cond, _||_}
 use mathlib.Core.List.{List}

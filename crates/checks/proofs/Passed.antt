@@ -1,10 +1,10 @@
--- What every later step goes by: a call that passes the ten checks has its lists of the right lengths, every end and film in the range, and a checked sheet.
--- Each field of `Checked` is one of 5 to 9 or 16 that was not given; a place is told by its height and its film, and no place is apart.
+-- What every later step goes by: a call that passes the ten checks has its lists of the right lengths, every end and film in the range, and a checked
+-- sheet. Each field of `Checked` is one of 5 to 9 or 16 that was not given; a place is told by its height and its film, and no place is apart.
 use mathlib.Core.Path.{_≡_, refl, sym, ap, _∙_}
 use mathlib.Core.Bool.{true, false}
 use mathlib.Core.List.{List}
 use mathlib.Core.Logic.{⊎-elim}
-use Prim.Native.Nat.{ℕ, suc, _+_, _*_, _/_, _%_, _≤_, _<_}
+use Prim.Native.Nat.{ℕ, suc, _*_, _/_, _%_, _≤_, _<_}
 use native.Mathlib.Numerals.{add-one}
 use native.Mathlib.Omega.{arith}
 use lib.IntN.{ℤ}
