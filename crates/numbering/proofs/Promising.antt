@@ -94,14 +94,10 @@ module _ (l : Lent) where
   few-records p k m q = let A = accepted-by l p k m q in omega (arith, A .polygons-are, A .records-are, records-and-polygons l (A .ok) (A .is-done))
 
   -- demand 3
-  one-film : (p q : ℕ) → drawingOf (l .list) .film p ≡ drawingOf (l .list) .film q
-  unfolding drawingOf
-  one-film p q = refl
-
   enough-there : checked (callOf l) ≡ check.Passed → 0 < edgesIn (l .list) → RowsEnough l
   unfolding drawingOf
   enough-there ok some =
-      let N = results.numbering-exists (passed (callOf l) ok .sheet) (few l ok) one-film in
+      let N = results.numbering-exists (passed (callOf l) ok .sheet) (few l ok) in
       record { polygon = N .0; sequence = N .1; polygons = N .2; numbering = N .3; rows = rowsEnough (drawingOf (l .list)) (N .0); enough = rows-enough (drawingOf (l .list)) (N .0) some }
 
   enough-rows : checked (callOf l) ≡ check.Passed → (E : RowsEnough l) → E .rows ≤ rowsIn (l .rows) → (polygons : ℕ) × (peak : ℕ) × (records : ℕ) × (outcome l .answer ≡ Accepted polygons peak records)

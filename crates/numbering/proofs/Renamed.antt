@@ -15,5 +15,5 @@ module _ {sh : Drawing} {polygon sequence polygon′ sequence′ : ℕ → ℕ} 
     top = λ e f l m z s. A .top e f l m (sym (q e l) ∙ z) (sym (p f m) ∙ s ∙ p e l);
     counts = λ e f a. ⊎-elim (λ h. inl (q f (a .next-is-edge) ∙ h ∙ ap suc (sym (q e (a .is-edge))))) (λ h. inr (q f (a .next-is-edge) ∙ h)) (A .counts e f a);
     pairs = λ e f l m s z. A .pairs e f l m (sym (p e l) ∙ s ∙ p f m) (sym (q e l) ∙ z ∙ q f m);
-    highest-first = λ e f l m z y s. A .highest-first e f l m (sym (q e l) ∙ z) (sym (q f m) ∙ y) (omega (arith, p e l, p f m, s));
+    later-top-first = λ d e c f a b z y h. let l = a .next-is-edge in let m = b .next-is-edge in omega (arith, p e l, p f m, A .later-top-first d e c f a b (sym (q e l) ∙ z) (sym (q f m) ∙ y) h);
   }

@@ -93,7 +93,7 @@ module _ (l : Lent) (ok : checked (callOf l) ≡ Passed) where
   few = all .few
 
   -- the sweep up on the slices, and on plain tables
-  abbrev M : Match (sliceRoom rows records) (plainRoom sheet rows (2 * sheet .edges)) Ranked (HoldsRows rows) (HoldsRecords records) 8192 rows
+  abbrev M : Match (sliceRoom rows records) (plainRoom sheet rows (2 * sheet .edges)) Ranked (λ p. p .film) (HoldsRows rows) (HoldsRecords records) 8192 rows
   M = matched (l .list) rows records (2 * sheet .edges) 8192 same-records few-records (omega arith)
 
   same-start : Alike M 0 0 (start 0 (l .rows) part) (start rows freeRows noRecords)
@@ -106,7 +106,7 @@ module _ (l : Lent) (ok : checked (callOf l) ≡ Passed) where
   unfolding slices.sweptUp up room sweptTo drawingOf apartAt
   alike =
       sweep-alike M (listEdges (l .list)) (drawnEdge sheet) edges
-      (λ i h. record { name = refl; small = omega (arith, h, all .few); tail = record { inside = all .tails-in-range i h; is-rank = refl }; head = record { inside = all .heads-in-range i h; is-rank = refl }; length = refl; apart = refl })
+      (λ i h. record { name = refl; small = omega (arith, h, all .few); tail = record { inside = all .tails-in-range i h; on-film = all .films-in-range i h; is-place = refl }; head = record { inside = all .heads-in-range i h; on-film = all .films-in-range i h; is-place = refl }; one-film = refl; length = refl; apart = refl })
       same-start
 
   -- the theory's run is this one
@@ -160,16 +160,12 @@ module _ (l : Lent) (ok : checked (callOf l) ≡ Passed) where
         (results.all-fits (all .sheet) few rows done-too heldPairs heldAnswers (fitting rows edges) (λ r h. h) (λ r v h f. (h, f)) (λ e v h f. (h, f))))
 
     -- the two plain readings are numberings of the list, and so one
-    one-film : (p q : ℕ) → sheet .film p ≡ sheet .film q
-    unfolding drawingOf
-    one-film p q = refl
-
     pub numbers : Numbering (drawingOf (l .list)) (λ e. down l .answers e .polygon) (λ e. naturalPart (down l .answers e .sequence)) (down l .polygons)
     unfolding down up readDown drawingOf
-    numbers = results.numbering (all .sheet) few rows done-too noPairs noPairs one-film
+    numbers = results.numbering (all .sheet) few rows done-too noPairs noPairs
 
     between-numbers : Numbering sheet (λ e. between .answers e .polygon) (λ e. naturalPart (between .answers e .sequence)) (between .polygons)
-    between-numbers = results.numbering (all .sheet) few rows done-too heldPairs heldAnswers one-film
+    between-numbers = results.numbering (all .sheet) few rows done-too heldPairs heldAnswers
 
     pub records-and-polygons : up l .state .records + down l .polygons ≤ 2 * edgesIn (l .list)
     unfolding down up readDown drawingOf

@@ -1,4 +1,4 @@
--- The sheets of document 01 that are marked there, worked by the numbering's own definition: one table, one test that is computed over all of it.
+-- The sheets of document 01 that are marked there, and sheets of several films, worked by the numbering's own definition: one table, one test that is computed over all of it.
 -- With three of them, engines that cannot keep the promise: for each a short refutation.
 use Prim.Native.Nat.{ℕ, _*_, _/_, _≤_}
 use mathlib.Core.Path.{_≡_, refl, sym, ap, _∙_}
@@ -22,7 +22,7 @@ use Rattle.sheet.specs.Passing.{passing, Most}
 use Rattle.sheet.specs.Kinds as kinds
 use Rattle.sheet.specs.Answers as answers
 use Rattle.sheet.specs.Answers.{numberOf, placeOf}
-use Rattle.sheet.proofs.Drawn.{triangle, twoEdges, square, twoPeaks, touching, threePairs}
+use Rattle.sheet.proofs.Drawn.{triangle, twoEdges, square, twoPeaks, touching, threePairs, sharedSide, sideTwice, oneTop, oneTopAround, touchingFilms}
 use Rattle.steps.specs.SweepUp as up
 use Rattle.steps.specs.SweepDown as down
 use Rattle.steps.specs.Plain as plain
@@ -30,7 +30,7 @@ use Rattle.steps.specs.Swept as swept
 use Rattle.numbering.specs.Outcome as outcomes
 use Rattle.numbering.specs.Outcome.{Lent, Left, outcome}
 use Rattle.numbering.specs.Promised.{Promised}
-use Rattle.sheet.specs.Amounts.{numbersPerEdge}
+use Rattle.sheet.specs.Amounts.{numbersPerEdge, journalNumbersPerEdge}
 use Rattle.steps.specs.Swept.{numbersPerRow}
 
 -- a sheet with the lengths of the slices lent, and what 01 says of it: refusal and place, or 0, 0; polygons, peak, records; the two lists
@@ -85,7 +85,7 @@ accepted list rows polygons peak records polygon sequence =
       list = list;
       polygons-lent = length list / numbersPerEdge;
       sequences-lent = length list / numbersPerEdge;
-      journal-lent = 2 * length list;
+      journal-lent = journalNumbersPerEdge * (length list / numbersPerEdge);
       rows = rows;
       refusal = 0;
       place = 0;
@@ -115,7 +115,7 @@ refusedWith list polygons-lent sequences-lent journal-lent rows number place =
     }
 
 refused : List ℕ → ℕ → ℕ → ℕ → Expected
-refused list rows number place = refusedWith list (length list / numbersPerEdge) (length list / numbersPerEdge) (2 * length list) rows number place
+refused list rows number place = refusedWith list (length list / numbersPerEdge) (length list / numbersPerEdge) (journalNumbersPerEdge * (length list / numbersPerEdge)) rows number place
 
 empty : Expected
 empty = accepted [] 0 0 0 0 [] []
@@ -130,7 +130,7 @@ two-touching =
 three-pairs : Expected
 three-pairs = accepted threePairs 1 3 1 9 (3 ∷ 3 ∷ 2 ∷ 2 ∷ 1 ∷ 1 ∷ []) (1 ∷ 0 ∷ 1 ∷ 0 ∷ 1 ∷ 0 ∷ [])
 
--- 01's marked sheets, and one for each refusal
+-- 01's marked sheets, sheets of two films, and one for each refusal
 sheets : List Expected
 sheets =
     empty
@@ -141,16 +141,22 @@ sheets =
     ∷ refused twoPeaks 2 10 3
     ∷ two-touching
     ∷ three-pairs
+    ∷ accepted sharedSide 2 2 2 10 (2 ∷ 1 ∷ 2 ∷ 2 ∷ 2 ∷ 1 ∷ 1 ∷ 1 ∷ []) (2 ∷ 2 ∷ 1 ∷ 3 ∷ 0 ∷ 1 ∷ 3 ∷ 0 ∷ [])
+    ∷ accepted oneTop 1 2 1 6 (2 ∷ 2 ∷ 1 ∷ 1 ∷ []) (1 ∷ 0 ∷ 1 ∷ 0 ∷ [])
+    ∷ accepted oneTopAround 2 2 2 6 (1 ∷ 2 ∷ 2 ∷ 1 ∷ []) (1 ∷ 1 ∷ 0 ∷ 0 ∷ [])
+    ∷ accepted touchingFilms 4 2 4 11 (2 ∷ 2 ∷ 1 ∷ 2 ∷ 2 ∷ 1 ∷ 1 ∷ []) (1 ∷ 2 ∷ 1 ∷ 3 ∷ 0 ∷ 2 ∷ 0 ∷ [])
     ∷ refused (0 ∷ 0 ∷ 4 ∷ []) 1 1 0
     ∷ refusedWith (replicate (numbersPerEdge * 4097) 0) 0 0 0 0 2 0
     ∷ refusedWith triangle 2 3 24 1 3 0
     ∷ refusedWith triangle 3 4 24 1 3 0
     ∷ refusedWith triangle 3 3 23 1 4 0
-    ∷ refused (0 ∷ 0 ∷ 4 ∷ 2 ∷ 4 ∷ 2 ∷ 1 ∷ 1000001 ∷ []) 1 5 1
-    ∷ refused (5 ∷ 5 ∷ 5 ∷ 5 ∷ []) 1 6 0
-    ∷ refused (4 ∷ 2 ∷ 1 ∷ 5 ∷ 0 ∷ 0 ∷ 4 ∷ 2 ∷ 1 ∷ 5 ∷ 0 ∷ 0 ∷ []) 1 7 1
-    ∷ refused (0 ∷ 0 ∷ 4 ∷ 2 ∷ triangle) 1 8 1
-    ∷ refused (0 ∷ 0 ∷ 4 ∷ 2 ∷ 4 ∷ 2 ∷ 1 ∷ 5 ∷ []) 1 9 0
+    ∷ refused (0 ∷ 0 ∷ 4 ∷ 2 ∷ 0 ∷ 4 ∷ 2 ∷ 1 ∷ 1000001 ∷ 0 ∷ []) 1 5 1
+    ∷ refused (0 ∷ 0 ∷ 4 ∷ 2 ∷ 0 ∷ 4 ∷ 2 ∷ 0 ∷ 0 ∷ 256 ∷ []) 1 16 1
+    ∷ refused (5 ∷ 5 ∷ 5 ∷ 5 ∷ 0 ∷ []) 1 6 0
+    ∷ refused (4 ∷ 2 ∷ 1 ∷ 5 ∷ 0 ∷ 0 ∷ 0 ∷ 4 ∷ 2 ∷ 0 ∷ 1 ∷ 5 ∷ 0 ∷ 0 ∷ 0 ∷ []) 1 7 1
+    ∷ refused (0 ∷ 0 ∷ 4 ∷ 2 ∷ 0 ∷ triangle) 1 8 1
+    ∷ refused sideTwice 2 8 3
+    ∷ refused (0 ∷ 0 ∷ 4 ∷ 2 ∷ 0 ∷ 4 ∷ 2 ∷ 1 ∷ 5 ∷ 0 ∷ []) 1 9 0
     ∷ []
 
 -- the top of the triangle's first edge
@@ -194,10 +200,12 @@ unfolding
     points.isSame
     points.within
     points.inRange
+    points.isFilm
     points.isUp
     points.topOf
     ranks.shift
     ranks.rank
+    ranks.placeOn
     edges.edgeAt
     edges.edgesIn
     edges.drawingOf
@@ -208,6 +216,7 @@ unfolding
     answers.listsDiffer
     answers.journalShort
     answers.pastRange
+    answers.filmPastRange
     answers.equalEnds
     answers.topFalls
     answers.sameKind
