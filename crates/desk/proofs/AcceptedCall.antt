@@ -1,5 +1,5 @@
--- What an accepted call of `outline_number` has: its list passed the nine checks, the two lists are its numbering, and they are one number an edge long.
--- Refusals have the numbers 1 to 10, so that refusal 0 is an accepted answer, and then the promise of the numbering speaks.
+-- What an accepted call of `outline_number` has: its list passed the checks, the two lists are its numbering, and they are one number an edge long.
+-- No refusal has the number 0, so that refusal 0 is an accepted answer, and then the promise of the numbering speaks.
 use mathlib.Core.Path.{_≡_, refl, sym, ap, _∙_, subst}
 use Prim.Native.Nat.{ℕ}
 use native.Mathlib.Omega.{arith}
@@ -7,7 +7,7 @@ use lib.ListN.{length, getD}
 use Rattle.sheet.specs.declared.Answer.{Answer}
 use Rattle.sheet.specs.declared.Answer.the-variants as answer
 use Rattle.sheet.specs.declared.Refusal.{Refusal}
-use Rattle.sheet.specs.declared.Refusal.the-variants.{NotWhole, TooMany, ListsDiffer, JournalShort, PastRange, EqualEnds, TopFalls, Repeated, Uneven, NoRow}
+use Rattle.sheet.specs.declared.Refusal.the-variants.{NotWhole, TooMany, ListsDiffer, JournalShort, PastRange, FilmPastRange, EqualEnds, TopFalls, Repeated, Uneven, NoRow}
 use Rattle.sheet.specs.Edges.{edgesIn, drawingOf}
 use Rattle.sheet.specs.Numbering.{Numbering}
 use Rattle.sheet.specs.Answers.{numberOf}
@@ -23,6 +23,7 @@ refused-not-zero TooMany q = omega arith
 refused-not-zero ListsDiffer q = omega arith
 refused-not-zero JournalShort q = omega arith
 refused-not-zero (PastRange e) q = omega arith
+refused-not-zero (FilmPastRange e) q = omega arith
 refused-not-zero (EqualEnds e) q = omega arith
 refused-not-zero (TopFalls e) q = omega arith
 refused-not-zero (Repeated e) q = omega arith

@@ -1,9 +1,9 @@
 -- Demand 2, for a desk that calls both functions: an accepted sheet's numbers are never refused a turn list, it has as many polygons as the sheet, and a
 -- cutter that goes by it cuts outline after outline, each from its edge 0 from point to point and back to where it began.
 -- The numbering of the list is a good numbering, so the turn list takes it. In the turn list neighbours of one polygon follow each other by the joins
--- (crates/hartley), where an edge follows another its tail has the rank of the other's head, and points in the range that have one rank are one. The
+-- (crates/hartley), where an edge follows another its tail is the place of the other's head, and one place is of one film and one point. The
 -- last of a polygon in the turn list has its largest sequence number, and the join from there leads to 0.
-use mathlib.Core.Path.{_≡_, sym, ap, _∙_, subst}
+use mathlib.Core.Path.{_≡_, refl, sym, ap, _∙_, subst}
 use mathlib.Core.List.{List}
 use mathlib.Core.Logic.{_↔_, ⊎-elim}
 use Prim.Native.Nat.{ℕ, suc, _≤_, _<_}
@@ -17,13 +17,13 @@ use Rattle.sheet.specs.declared.Edge.{Edge}
 use Rattle.sheet.specs.declared.TurnAnswer.{TurnAnswer}
 use Rattle.sheet.specs.Edges.{Drawing, edgeAt, edgesIn, drawingOf}
 use Rattle.sheet.specs.Joining.{Follows}
-use Rattle.sheet.specs.Sound.{InOutline}
+use Rattle.sheet.specs.Sound.{InOutline, itself, onwards}
 use Rattle.sheet.specs.Numbering.{Numbering}
 use Rattle.sheet.specs.Passing.{outlineSize}
 use Rattle.sheet.specs.Answers.{Call}
 use Rattle.sheet.specs.TurnList.{NumberLists, numberLists, GoodNumbering, GoodLists, TurnList, TurnsAfter}
 use Rattle.sheet.proofs.Checked.{Checked}
-use Rattle.sheet.proofs.Ranks.{rank-inj}
+use Rattle.sheet.proofs.Places.{place-parts}
 use Rattle.sheet.proofs.Outlines.{outline-shares, shares-outline}
 use Rattle.sheet.proofs.ExactlyAccepted.{accepts-exactly}
 use Rattle.checks.proofs.Passed.{AllPassed}
@@ -59,9 +59,10 @@ pub record CutInOrder (list : List ℤ) (y : Left Sheet) (turns : List ℕ) (r :
   pub back-to-first : (i : ℕ) → i < length turns → LastOfPolygon (y .polygons) turns i
       → (j : ℕ) × (j ≤ i) × (numberCut (y .polygons) turns j ≡ numberCut (y .polygons) turns i) × (numberCut (y .sequences) turns j ≡ 0) × (edgeCut list turns i .head ≡ edgeCut list turns j .tail)
 
--- what the two lists of an accepted sheet are: a polygon number is an outline's, and a sequence number is below the number of its edges
+-- what the two lists of an accepted sheet are: a polygon number is an outline's and so of one film, and a sequence number is below the number of its edges
 pub record NumbersOfOutlines (list : List ℤ) (y : Left Sheet) : Type 0 where
   pub one-outline : (e f : ℕ) → e < edgesIn list → f < edgesIn list → (getD (y .polygons) f 0 ≡ getD (y .polygons) e 0) ↔ InOutline (drawingOf list) e f
+  pub one-film : (e f : ℕ) → e < edgesIn list → f < edgesIn list → getD (y .polygons) f 0 ≡ getD (y .polygons) e 0 → edgeAt list e .film ≡ edgeAt list f .film
   pub below-its-edges : (e : ℕ) → e < edgesIn list → getD (y .sequences) e 0 < outlineSize (drawingOf list) (λ f. getD (y .polygons) f 0) (getD (y .polygons) e 0)
 
 module _ {sh : Drawing} (K : Checked sh) {polygon sequence : ℕ → ℕ} {n : ℕ} (A : Numbering sh polygon sequence n) where
@@ -124,10 +125,18 @@ module _ {sh : Drawing} (K : Checked sh) {polygon sequence : ℕ → ℕ} {n : �
         not-later : (j : ℕ) → j < sh .edges → polygon (turn j) ≡ polygon (turn i) → sequence (turn j) ≡ 0 → j ≤ i
         not-later j m p z = ⊎-elim (λ h. absurd (⊎-elim (λ g. omega (arith, p, g)) (λ g. omega (arith, z, g)) (L .in-order i j h m))) (λ h. h) (lt-or-le i j)
 
--- where an edge follows another, its tail is the other's head, as points
-meets : {c : Call} → AllPassed c → (e f : ℕ) → Follows (drawingOf (c .list)) e f → edgeAt (c .list) e .head ≡ edgeAt (c .list) f .tail
+-- where an edge follows another, it is of the other's film, and its tail is the other's head, as points
+meets : {c : Call} → AllPassed c → (e f : ℕ) → Follows (drawingOf (c .list)) e f → (edgeAt (c .list) e .film ≡ edgeAt (c .list) f .film) × (edgeAt (c .list) e .head ≡ edgeAt (c .list) f .tail)
 unfolding drawingOf
-meets {c} P e f F = rank-inj (edgeAt (c .list) e .head) (edgeAt (c .list) f .tail) (P .heads-in-range e (F .is-edge)) (P .tails-in-range f (F .next-is-edge)) (sym (F .meet))
+meets {c} P e f F =
+    place-parts (edgeAt (c .list) e .film) (edgeAt (c .list) f .film) (edgeAt (c .list) e .head) (edgeAt (c .list) f .tail)
+    (P .films-in-range e (F .is-edge)) (P .films-in-range f (F .next-is-edge)) (P .heads-in-range e (F .is-edge)) (P .tails-in-range f (F .next-is-edge))
+    (sym (F .meet))
+
+-- so an outline is of one film
+film-kept : {c : Call} → AllPassed c → (e f : ℕ) → InOutline (drawingOf (c .list)) e f → edgeAt (c .list) e .film ≡ edgeAt (c .list) f .film
+film-kept P e f itself = refl
+film-kept P e f (onwards o a) = film-kept P e _ o ∙ meets P _ f a .0
 
 module _ (l : Lent) (y : Left Sheet) (E : Exports l y) (ok : y .answer .refusal ≡ 0) where
   C : AcceptedCall l y
@@ -137,6 +146,7 @@ module _ (l : Lent) (y : Left Sheet) (E : Exports l y) (ok : y .answer .refusal 
   unfolding drawingOf
   numbers-of-outlines = record {
     one-outline = λ e f el fl. (shares-outline (C .all-passed .sheet) (C .numbering) e f el fl, outline-shares (C .all-passed .sheet) (C .numbering) e f);
+    one-film = λ e f el fl p. film-kept (C .all-passed) e f (shares-outline (C .all-passed .sheet) (C .numbering) e f el fl p);
     below-its-edges = λ e el. sequence-below (C .all-passed .sheet) (C .numbering) e el;
   }
 
@@ -167,8 +177,8 @@ module _ (l : Lent) (y : Left Sheet) (E : Exports l y) (ok : y .answer .refusal 
       all-polygons = R .exactly (y .answer .polygons) .1 good .1;
       as-long = long;
       edge-once = λ e el. ap (count (λ i. eqb (getD after i 0) e)) long ∙ edge-once drawn e el;
-      end-to-end = λ i il q. meets (C .all-passed) _ _ (turns-follow (C .all-passed .sheet) (C .numbering) after drawn i (omega (arith, il, long)) q);
+      end-to-end = λ i il q. meets (C .all-passed) _ _ (turns-follow (C .all-passed .sheet) (C .numbering) after drawn i (omega (arith, il, long)) q) .1;
       back-to-first = λ i il last.
           let w = back (C .all-passed .sheet) (C .numbering) after drawn i (omega (arith, il, long)) (λ h. last (omega (arith, h, long))) in
-          (w .0, w .1, w .2, w .3, meets (C .all-passed) _ _ (w .4));
+          (w .0, w .1, w .2, w .3, meets (C .all-passed) _ _ (w .4) .1);
     }

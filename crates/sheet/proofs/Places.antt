@@ -39,7 +39,8 @@ module _ (f g : ℤ) (p q : Point) (hf : isFilm f ≡ true) (hg : isFilm g ≡ t
   pub place-below : isBelow p q ≡ ltb (placeOn f p / films) (placeOn g q / films)
   place-below = rw (height-of f p hf, height-of g q hg) (rank-below p q hp hq)
 
-  place-parts : placeOn f p ≡ placeOn g q → (f ≡ g) × (p ≡ q)
+  -- one place is of one film and one point
+  pub place-parts : placeOn f p ≡ placeOn g q → (f ≡ g) × (p ≡ q)
   place-parts e =
       let m : mag f ≡ mag g = sym (film-of f p hf) ∙ ap (λ n. n % films) e ∙ film-of g q hg in
       let r : rank p ≡ rank q = sym (height-of f p hf) ∙ ap (λ n. n / films) e ∙ height-of g q hg in
