@@ -1,4 +1,4 @@
--- A room of 2,048 numbers is enough for every text: only the limits of bytes and of lines are left to refuse it.
+-- A room of 2,560 numbers is enough for every text: only the limits of bytes and of lines are left to refuse it.
 use mathlib.Core.Path.{_≡_}
 use mathlib.Core.Bool.{false}
 use mathlib.Core.List.{List}
@@ -16,7 +16,11 @@ pub few-lines : (s : List ℕ) → pastLimits s ≡ false → lineCount s ≤ 51
 unfolding pastLimits
 few-lines s h = ltb-false 512 (lineCount s) (neither-true (ltb 20480 (length s)) _ h .1)
 
-pub enough-room : (s : List ℕ) (room : ℕ) → 2048 ≤ room → tooMuch s room ≡ pastLimits s
+pub few-bytes : (s : List ℕ) → pastLimits s ≡ false → length s ≤ 20480
+unfolding pastLimits
+few-bytes s h = ltb-false 20480 (length s) (neither-true _ (ltb 512 (lineCount s)) h .0)
+
+pub enough-room : (s : List ℕ) (room : ℕ) → 2560 ≤ room → tooMuch s room ≡ pastLimits s
 unfolding tooMuch
 enough-room s room h = ⊎-elim
     (λ p. rw p)

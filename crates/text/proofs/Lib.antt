@@ -15,6 +15,7 @@ pub mod ToTheEnd
 pub mod Decimals
 pub mod Spelled
 pub mod NumeralsRead
+pub mod Lengths
 pub mod ReadBack
 pub mod NumeralsStand
 pub mod WrittenSo

@@ -76,8 +76,8 @@ module _ (s : List ℕ) where
   pub line-is : (i : ℕ) {e : Edge} {c : ℕ} → lineAt s i ≡ read e c → Ended i c
   line-is i h =
       let l = line-parts s i h in
-      let r = run-join (space-run i (l .tail-x)) (run-join (space-run _ (l .tail-y)) (space-run _ (l .head-x))) in
-      let f = field-parts s newline _ (l .head-y) in
+      let r = run-join (space-run i (l .tail-x)) (run-join (space-run _ (l .tail-y)) (run-join (space-run _ (l .head-x)) (space-run _ (l .head-y)))) in
+      let f = field-parts s newline _ (l .film) in
       record { end = f .after; run = run-join r (number-run _ (f .number)); byte = f .byte; past = f .past }
 
   newline-found : (i j : ℕ) → Run s i j → byteAt s j ≡ 10 → afterNewline s i ≡ j + 1

@@ -23,7 +23,7 @@ use Rattle.text.specs.Said.{Said, read, refused, numberSaid, stepSaid, l
 use Rattle.text.specs.Texts.{linesRead, Filled, Outcome}
 use Rattle.sheet.specs.Amounts.{numbersPerEdge}
 
-numbers-same : (l m : List ℤ) (n j : ℕ) → edgeAt l n ≡ edgeAt m n → j < 4 → getD l (numbersPerEdge * n + j) (pos 0) ≡ getD m (numbersPerEdge * n + j) (pos 0)
+numbers-same : (l m : List ℤ) (n j : ℕ) → edgeAt l n ≡ edgeAt m n → j < 5 → getD l (numbersPerEdge * n + j) (pos 0) ≡ getD m (numbersPerEdge * n + j) (pos 0)
 unfolding edgeAt
 numbers-same l m n zero e h =
     let q : numbersPerEdge * n + 0 ≡ numbersPerEdge * n = omega arith in
@@ -31,7 +31,8 @@ numbers-same l m n zero e h =
 numbers-same l m n (suc zero) e h = ap (λ (d : Edge). d .tail .y) e
 numbers-same l m n (suc (suc zero)) e h = ap (λ (d : Edge). d .head .x) e
 numbers-same l m n (suc (suc (suc zero))) e h = ap (λ (d : Edge). d .head .y) e
-numbers-same l m n (suc (suc (suc (suc j)))) e h = absurd (omega arith)
+numbers-same l m n (suc (suc (suc (suc zero)))) e h = ap (λ (d : Edge). d .film) e
+numbers-same l m n (suc (suc (suc (suc (suc j))))) e h = absurd (omega arith)
 
 filled-same : (s : List ℕ) (m : ℕ) {before a b : List ℤ} → Filled s m before a → Filled s m before b → (k : ℕ) → getD a k (pos 0) ≡ getD b k (pos 0)
 filled-same s m {before} {a} {b} f g k = ⊎-elim

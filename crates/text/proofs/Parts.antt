@@ -1,4 +1,4 @@
--- What was read where the answer is no refusal: a number is its sign and its digits, a field a number and the byte after it, a line four fields.
+-- What was read where the answer is no refusal: a number is its sign and its digits, a field a number and the byte after it, a line five fields.
 use mathlib.Core.Path.{_≡_, refl, sym, ap, _∙_}
 use mathlib.Core.Bool.{true}
 use mathlib.Core.List.{List}
@@ -54,10 +54,12 @@ module _ (s : List ℕ) where
     pub second : ℕ
     pub third : ℕ
     pub fourth : ℕ
+    pub fifth : ℕ
     pub tail-x : fieldAt s space i ≡ read (e .tail .x) second
     pub tail-y : fieldAt s space second ≡ read (e .tail .y) third
     pub head-x : fieldAt s space third ≡ read (e .head .x) fourth
-    pub head-y : fieldAt s newline fourth ≡ read (e .head .y) c
+    pub head-y : fieldAt s space fourth ≡ read (e .head .y) fifth
+    pub film : fieldAt s newline fifth ≡ read (e .film) c
 
   -- what is read on from a number is an edge only where there is a number
   then-edge : (n : Said ℤ) (more : ℤ → ℕ → Said Edge) {e : Edge} {c : ℕ} → andThen n more ≡ read e c
@@ -73,14 +75,17 @@ module _ (s : List ℕ) where
       let l = then-edge _ _ (k .3) in
       let m = then-edge _ _ (l .3) in
       let n = then-edge _ _ (m .3) in
-      let q : edgeOf (k .0) (l .0) (m .0) (n .0) ≡ e = cc (n .3) in
-      let p : n .1 ≡ c = cc (n .3) in
+      let o = then-edge _ _ (n .3) in
+      let q : edgeOf (k .0) (l .0) (m .0) (n .0) (o .0) ≡ e = cc (o .3) in
+      let p : o .1 ≡ c = cc (o .3) in
       record {
         second = k .1;
         third = l .1;
         fourth = m .1;
+        fifth = n .1;
         tail-x = k .2 ∙ ap (λ (e : Edge). read (e .tail .x) (k .1)) q;
         tail-y = l .2 ∙ ap (λ (e : Edge). read (e .tail .y) (l .1)) q;
         head-x = m .2 ∙ ap (λ (e : Edge). read (e .head .x) (m .1)) q;
-        head-y = n .2 ∙ ap (λ (e : Edge). read (e .head .y) (n .1)) q ∙ ap (read (e .head .y)) p;
+        head-y = n .2 ∙ ap (λ (e : Edge). read (e .head .y) (n .1)) q;
+        film = o .2 ∙ ap (λ (e : Edge). read (e .film) (o .1)) q ∙ ap (read (e .film)) p;
       }

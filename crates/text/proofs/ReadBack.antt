@@ -1,12 +1,12 @@
--- What is written is read: a list of up to 512 edges of numbers of up to seven digits, written in decimal, answers with as many edges, and they are those,
--- in every room that takes them.
+-- What is written is read: a list of up to 512 edges of numbers of up to seven digits, written in decimal in up to 20,480 bytes, answers with as many edges,
+-- and they are those, in every room that takes them. Where films are in their range, so many edges take no more bytes (Lengths).
 -- So the definitions refuse nothing that is well formed. Line by line: the text of an edge is a well-formed line, and the next begins after it.
 use mathlib.Core.Path.{_≡_, refl, sym, ap, _∙_}
 use mathlib.Core.Bool.{false}
 use mathlib.Core.List.{List, [], _∷_, _++_}
 use Prim.Native.Nat.{ℕ, zero, suc, _+_, _*_, _≤_, _<_}
 use native.Mathlib.Omega.{arith}
-use lib.IntN.{ℤ, pos, negsuc}
+use lib.IntN.{ℤ, pos}
 use lib.ListN.{getD, length, length-append}
 use borrow.Author.Tests.{eq-eqb, le-ltb}
 use Rattle.laws.proofs.Searching.{NoneBelow, found-none}
@@ -21,7 +21,6 @@ use Rattle.text.proofs.LineEnds.{line-ends}
 use Rattle.text.proofs.ToTheEnd.{lines-are}
 use Rattle.text.proofs.Spelled.{Spelled, spelled-left, spelled-right}
 use Rattle.text.proofs.NumeralsRead.{number-read}
-use Rattle.text.proofs.Decimals.{decimal-writes}
 use Rattle.sheet.specs.Amounts.{numbersPerEdge}
 
 -- a number and the byte after it
@@ -53,17 +52,20 @@ line-read s i e l h =
     let a = withByte (e .tail .x) space in
     let b = withByte (e .tail .y) space in
     let c = withByte (e .head .x) space in
-    let d = withByte (e .head .y) newline in
-    let h2 = spelled-right s i a (b ++ (c ++ d)) h in
-    let h3 = spelled-right s _ b (c ++ d) h2 in
-    let h4 = spelled-right s _ c d h3 in
-    let q : i + length (a ++ (b ++ (c ++ d))) ≡ i + length a + length b + length c + length d =
-    omega (arith, length-append a (b ++ (c ++ d)), length-append b (c ++ d), length-append c d) in
+    let d = withByte (e .head .y) space in
+    let f = withByte (e .film) newline in
+    let h2 = spelled-right s i a (b ++ (c ++ (d ++ f))) h in
+    let h3 = spelled-right s _ b (c ++ (d ++ f)) h2 in
+    let h4 = spelled-right s _ c (d ++ f) h3 in
+    let h5 = spelled-right s _ d f h4 in
+    let q : i + length (a ++ (b ++ (c ++ (d ++ f)))) ≡ i + length a + length b + length c + length d + length f =
+    omega (arith, length-append a (b ++ (c ++ (d ++ f))), length-append b (c ++ (d ++ f)), length-append c (d ++ f), length-append d f) in
     rw (
       field-read s space i (e .tail .x) no-space (l .tail-x) (spelled-left s i a _ h),
       field-read s space _ (e .tail .y) no-space (l .tail-y) (spelled-left s _ b _ h2),
       field-read s space _ (e .head .x) no-space (l .head-x) (spelled-left s _ c _ h3),
-      field-read s newline _ (e .head .y) no-newline (l .head-y) h4,
+      field-read s space _ (e .head .y) no-space (l .head-y) (spelled-left s _ d _ h4),
+      field-read s newline _ (e .film) no-newline (l .film) h5,
       q,
     )
 
@@ -109,39 +111,6 @@ lines-read s m [] l h = record {
 }
 lines-read s m (e ∷ es) l h = one-line-more s m e es l h (lines-read s (suc m) es (λ d n g. l d (suc n) (omega arith)) (rest-spelled s m e es l h))
 
-numeral-length : (z : ℤ) → Short z → length (numeral z) ≤ 8
-unfolding numeral
-numeral-length (pos n) l = omega (arith, decimal-writes 7 n l (omega arith) .few)
-numeral-length (negsuc n) l = omega (arith, decimal-writes 7 (suc n) l (omega arith) .few)
-
-field-length : (z : ℤ) (b : ℕ) → Short z → length (withByte z b) ≤ 9
-unfolding withByte
-field-length z b l = omega (arith, length-append (numeral z) (b ∷ []), numeral-length z l)
-
-line-length : (e : Edge) → ShortEdge e → length (writtenLine e) ≤ 36
-unfolding writtenLine
-line-length e l =
-    let a = withByte (e .tail .x) space in
-    let b = withByte (e .tail .y) space in
-    let c = withByte (e .head .x) space in
-    let d = withByte (e .head .y) newline in
-    omega (
-      arith,
-      length-append a (b ++ (c ++ d)),
-      length-append b (c ++ d),
-      length-append c d,
-      field-length (e .tail .x) space (l .tail-x),
-      field-length (e .tail .y) space (l .tail-y),
-      field-length (e .head .x) space (l .head-x),
-      field-length (e .head .y) newline (l .head-y),
-    )
-
-written-length : (es : List Edge) → AllShort es → length (written es) ≤ 36 * length es
-unfolding written
-written-length [] l = omega arith
-written-length (e ∷ es) l =
-    omega (arith, length-append (writtenLine e) (written es), line-length e (l e 0 (omega arith)), written-length es (λ d n g. l d (suc n) (omega arith)))
-
 module _ (es : List Edge) (l : AllShort es) where
   all-read : LinesAre (written es) 0 es
   unfolding lineStart
@@ -155,7 +124,7 @@ module _ (es : List Edge) (l : AllShort es) where
 
   none-malformed : NoneBelow (λ n. isMalformed (lineOf (written es) n)) (length es)
   unfolding isMalformed
-  none-malformed n g = ap isMalformed (line-there (edgeOf (pos 0) (pos 0) (pos 0) (pos 0)) n g .1)
+  none-malformed n g = ap isMalformed (line-there (edgeOf (pos 0) (pos 0) (pos 0) (pos 0) (pos 0)) n g .1)
 
   as-many-lines : lineCount (written es) ≡ length es
   unfolding lineStart
@@ -163,19 +132,19 @@ module _ (es : List Edge) (l : AllShort es) where
       let q : 0 + length es ≡ length es = omega arith in
       lines-are (written es) (length es) none-malformed (omega (arith, ap (lineStart (written es)) q, all-read .ends))
 
-  not-too-much : (room : ℕ) → length es ≤ 512 → numbersPerEdge * length es ≤ room → tooMuch (written es) room ≡ false
+  not-too-much : (room : ℕ) → length es ≤ 512 → length (written es) ≤ 20480 → numbersPerEdge * length es ≤ room → tooMuch (written es) room ≡ false
   unfolding tooMuch pastLimits
-  not-too-much room few fits = rw (
-    le-ltb 20480 (length (written es)) (omega (arith, written-length es l)),
+  not-too-much room few short fits = rw (
+    le-ltb 20480 (length (written es)) short,
     le-ltb 512 (lineCount (written es)) (omega (arith, as-many-lines)),
     le-ltb room (numbersPerEdge * lineCount (written es)) (omega (arith, as-many-lines)),
   )
 
-  pub written-read : (room : ℕ) → length es ≤ 512 → numbersPerEdge * length es ≤ room → readingOf (written es) room ≡ Edges (length es)
+  pub written-read : (room : ℕ) → length es ≤ 512 → length (written es) ≤ 20480 → numbersPerEdge * length es ≤ room → readingOf (written es) room ≡ Edges (length es)
   unfolding readingOf answerOf firstMalformed
-  written-read room few fits =
+  written-read room few short fits =
       let q : length es ≡ firstMalformed (written es) (length es) = found-none _ none-malformed (omega arith) in
-      rw (not-too-much room few fits, as-many-lines, ← q, le-ltb (length es) (length es) (omega arith))
+      rw (not-too-much room few short fits, as-many-lines, ← q, le-ltb (length es) (length es) (omega arith))
 
   pub edges-read : (d : Edge) (n : ℕ) → n < length es → edgeIn (lineOf (written es) n) ≡ getD es n d
   unfolding edgeIn

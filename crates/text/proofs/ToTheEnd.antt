@@ -21,7 +21,7 @@ use Rattle.text.specs.Numbers.{byteAt}
 use Rattle.text.specs.Lines.{isMalformed}
 use Rattle.text.specs.Texts.{newlineAt, newlines, unended, lineCount, lineStart, lineOf, firstMalformed, tooMuch, answerOf, readingOf}
 use Rattle.text.proofs.Bytes.{byte-stands}
-use Rattle.text.proofs.EnoughRoom.{few-lines}
+use Rattle.text.proofs.EnoughRoom.{few-lines, few-bytes}
 use Rattle.text.proofs.LineEnds.{Ended, line-is, line-ends}
 use Rattle.sheet.specs.Amounts.{numbersPerEdge}
 
@@ -116,6 +116,7 @@ module _ (s : List ℕ) where
   pub record ReadWhole (size n : ℕ) : Type 0 where
     pub lines : n ≡ lineCount s
     pub few : n ≤ 512
+    pub bytes : length s ≤ 20480
     pub room : numbersPerEdge * n ≤ size
     pub sound : NoneBelow (λ k. isMalformed (lineOf s k)) n
     pub end : lineStart s n ≡ length s
@@ -128,6 +129,7 @@ module _ (s : List ℕ) where
       record {
         lines = refl;
         few = few-lines s (v .0);
+        bytes = few-bytes s (v .0);
         room = ltb-false size (numbersPerEdge * lineCount s) (v .1);
         sound = h;
         end = all-lines h;

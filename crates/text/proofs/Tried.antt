@@ -53,7 +53,7 @@ module _ (s : List ℕ) {before after : List ℤ} {cursor n : ℕ} (f : SoFar s 
       record { answer = rw (← q, le-ltb lines lines (omega arith)); filled = rw (← q, h) (f .filled) }
 
   pub one-more : {l : Line} {e : Edge} {c : Cursor} {a : List ℤ}
-      → numbersPerEdge * n + 3 < length before → lineSaid l ≡ lineAt s cursor → l ≡ line.Edge e c → a ≡ placed after n e → SoFar s before a (c .at) (n + 1)
+      → numbersPerEdge * n + 4 < length before → lineSaid l ≡ lineAt s cursor → l ≡ line.Edge e c → a ≡ placed after n e → SoFar s before a (c .at) (n + 1)
   unfolding isMalformed edgeIn lineStart
   one-more {l} {e} {c} {a} room g h p = record {
     here = rw (add-one, ← f .here) (line-ends s cursor (sym g ∙ ap lineSaid h));

@@ -1,5 +1,5 @@
 -- What is read is written: where a line or a whole text of edges is read, it is that edge or list as it is written in decimal.
--- With ReadBack: the texts that answer with edges are the written lists of up to 512 edges that the room takes, each the text of its own list.
+-- With ReadBack: the texts that answer with edges are the written lists of up to 512 edges and 20,480 bytes that the room takes, each the text of its own list.
 use mathlib.Core.Path.{_≡_, refl, sym, ap, _∙_}
 use mathlib.Core.Bool.{false}
 use mathlib.Core.List.{List, [], _∷_, _++_, append-assoc, append-nil}
@@ -54,17 +54,31 @@ line-written s i {e} h =
     let f = field-written s space i (l .tail-x) in
     let g = field-written s space _ (l .tail-y) in
     let k = field-written s space _ (l .head-x) in
-    let m = field-written s newline _ (l .head-y) in
+    let m = field-written s space _ (l .head-y) in
+    let n = field-written s newline _ (l .film) in
     let a = withByte (e .tail .x) space in
     let b = withByte (e .tail .y) space in
     let c = withByte (e .head .x) space in
-    let d = withByte (e .head .y) newline in
+    let d = withByte (e .head .y) space in
+    let o = withByte (e .film) newline in
     record {
-      short = record { tail-x = f .short; tail-y = g .short; head-x = k .short; head-y = m .short };
-      there = spelled-join s i a (b ++ (c ++ d)) (f .there) (rw (f .past) at (
-          spelled-join s _ b (c ++ d) (g .there) (rw (g .past) at (
-          spelled-join s _ c d (k .there) (rw (k .past) at (m .there))))));
-      past = omega (arith, f .past, g .past, k .past, m .past, length-append a (b ++ (c ++ d)), length-append b (c ++ d), length-append c d);
+      short = record { tail-x = f .short; tail-y = g .short; head-x = k .short; head-y = m .short; film = n .short };
+      there = spelled-join s i a (b ++ (c ++ (d ++ o))) (f .there) (rw (f .past) at (
+          spelled-join s _ b (c ++ (d ++ o)) (g .there) (rw (g .past) at (
+          spelled-join s _ c (d ++ o) (k .there) (rw (k .past) at (
+          spelled-join s _ d o (m .there) (rw (m .past) at (n .there))))))));
+      past = omega (
+        arith,
+        f .past,
+        g .past,
+        k .past,
+        m .past,
+        n .past,
+        length-append a (b ++ (c ++ (d ++ o))),
+        length-append b (c ++ (d ++ o)),
+        length-append c (d ++ o),
+        length-append d o,
+      );
     }
 
 -- the edges of the first n lines
@@ -116,7 +130,7 @@ front-written s zero h = record { as-many = refl; short = λ d k l. absurd (omeg
 front-written s (suc n) h = line-more s n (front-written s n (λ k l. h k (omega arith))) (h n (omega arith))
 
 pub written-so : (s : List ℕ) (room n : ℕ) → readingOf s room ≡ Edges n
-    → (es : List Edge) × (length es ≡ n) × (n ≤ 512) × (numbersPerEdge * n ≤ room) × AllShort es × (written es ≡ s)
+    → (es : List Edge) × (length es ≡ n) × (n ≤ 512) × (length s ≤ 20480) × (numbersPerEdge * n ≤ room) × AllShort es × (written es ≡ s)
 unfolding byteAt
 written-so s room n h =
     let r = to-the-end s room n h in
@@ -124,6 +138,7 @@ written-so s room n h =
       linesOf s n,
       f .as-many,
       r .few,
+      r .bytes,
       r .room,
       f .short,
       ext-getD 256 (written (linesOf s n)) s (sym (f .past) ∙ r .end) (λ k l. let q : 0 + k ≡ k = omega arith in sym (f .there k l) ∙ ap (byteAt s) q),

@@ -1,5 +1,5 @@
--- A line in a text (01 Program 1): four numbers, one space after each of the first three and a newline after the last. They are an edge's tail x,
--- tail y, head x and head y.
+-- A line in a text (01 Program 1, M-100): five numbers, one space after each of the first four and a newline after the last. They are an edge's tail x,
+-- tail y, head x, head y and film. How large a film may be is not the text's to say: it is a number like the others.
 use Prim.Native.Nat.{ℕ, _+_}
 use mathlib.Core.Bool.{Bool, true, false, cond}
 use mathlib.Core.List.{List}
@@ -26,8 +26,8 @@ space = 32
 abbrev pub newline : ℕ
 newline = 10
 
-abbrev pub edgeOf : ℤ → ℤ → ℤ → ℤ → Edge
-edgeOf a b c d = record { tail = record { x = a; y = b }; head = record { x = c; y = d } }
+abbrev pub edgeOf : ℤ → ℤ → ℤ → ℤ → ℤ → Edge
+edgeOf a b c d f = record { tail = record { x = a; y = b }; head = record { x = c; y = d }; film = f }
 
 -- the line that begins at i, and the place after it
 unfoldable pub lineAt : List ℕ → ℕ → Said Edge
@@ -35,8 +35,9 @@ lineAt s i =
     andThen (fieldAt s space i) λ tail-x i.
     andThen (fieldAt s space i) λ tail-y i.
     andThen (fieldAt s space i) λ head-x i.
-    andThen (fieldAt s newline i) λ head-y i.
-    read (edgeOf tail-x tail-y head-x head-y) i
+    andThen (fieldAt s space i) λ head-y i.
+    andThen (fieldAt s newline i) λ film i.
+    read (edgeOf tail-x tail-y head-x head-y film) i
 
 unfoldable pub isMalformed : Said Edge → Bool
 isMalformed (read e i) = false
@@ -45,4 +46,4 @@ isMalformed (refused n) = true
 -- a well-formed line's edge
 unfoldable pub edgeIn : Said Edge → Edge
 edgeIn (read e i) = e
-edgeIn (refused n) = edgeOf (pos 0) (pos 0) (pos 0) (pos 0)
+edgeIn (refused n) = edgeOf (pos 0) (pos 0) (pos 0) (pos 0) (pos 0)

@@ -50,7 +50,7 @@ firstMalformed s lines = first (λ n. isMalformed (lineOf s n)) lines
 unfoldable pub pastLimits : List ℕ → Bool
 pastLimits s = ltb 20480 (length s) || ltb 512 (lineCount s)
 
--- past a limit, or the room has fewer numbers than four for each line
+-- past a limit, or the room has fewer numbers than five for each line
 unfoldable pub tooMuch : List ℕ → ℕ → Bool
 tooMuch s room = pastLimits s || ltb room (numbersPerEdge * lineCount s)
 
@@ -77,10 +77,10 @@ readingPlace (Edges n) = 0
 unfoldable pub linesRead : List ℕ → ℕ → ℕ
 linesRead s room = cond (tooMuch s room) 0 (firstMalformed s (lineCount s))
 
--- a list with an edge's four numbers at its place
+-- a list with an edge's five numbers at its place
 abbrev pub placed : List ℤ → ℕ → Edge → List ℤ
 placed l n e =
-    set (set (set (set l (numbersPerEdge * n) (e .tail .x)) (numbersPerEdge * n + 1) (e .tail .y)) (numbersPerEdge * n + 2) (e .head .x)) (numbersPerEdge * n + 3) (e .head .y)
+    set (set (set (set (set l (numbersPerEdge * n) (e .tail .x)) (numbersPerEdge * n + 1) (e .tail .y)) (numbersPerEdge * n + 2) (e .head .x)) (numbersPerEdge * n + 3) (e .head .y)) (numbersPerEdge * n + 4) (e .film)
 
 -- The room for edges after reading: the edges of the first m lines in their order, then what stood there before.
 pub record Filled (s : List ℕ) (m : ℕ) (before after : List ℤ) : Type 0 where

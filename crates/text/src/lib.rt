@@ -219,7 +219,7 @@ impl Cursor {
         Number::Value(value, next)
     }
 
-    // The line that begins here: tail x, tail y, head x, head y.
+    // The line that begins here: tail x, tail y, head x, head y, film.
     pub fn line(self, text: &[u8]) -> Line
         ensures { λ r. ⌜ lineSaid r ≡ lineAt (now (text .entry)) (self .at) ⌝ }
     {
@@ -232,7 +232,10 @@ impl Cursor {
         let Number::Value(head_x, fourth) = third.field(text, b' ') else {
             return Line::Malformed;
         };
-        let Number::Value(head_y, next) = fourth.field(text, b'\n') else {
+        let Number::Value(head_y, fifth) = fourth.field(text, b' ') else {
+            return Line::Malformed;
+        };
+        let Number::Value(film, next) = fifth.field(text, b'\n') else {
             return Line::Malformed;
         };
         let tail = Point {
@@ -243,7 +246,7 @@ impl Cursor {
             x: head_x,
             y: head_y,
         };
-        Line::Edge(sheet::Edge { tail, head }, next)
+        Line::Edge(sheet::Edge { tail, head, film }, next)
     }
 }
 
@@ -282,7 +285,7 @@ fn line_count(text: &[u8]) -> usize
 
 // An edge at its place in a list.
 fn put(edges: &mut [i32], place: usize, edge: sheet::Edge)
-    requires { ⌜ numbersPerEdge * place + 3 < length (now edges) ⌝ }
+    requires { ⌜ numbersPerEdge * place + 4 < length (now edges) ⌝ }
     ensures { λ _. ⌜ now (edges .exit) ≡ placed (now (edges .entry)) place edge ⌝ }
 {
     let first = sheet::Edge::NUMBERS * place;
@@ -296,6 +299,8 @@ fn put(edges: &mut [i32], place: usize, edge: sheet::Edge)
     edges[first + 2] = head_x;
     let head_y = head.y;
     edges[first + 3] = head_y;
+    let film = edge.film;
+    edges[first + 4] = film;
 }
 
 // Line by line, to the first that is malformed.
