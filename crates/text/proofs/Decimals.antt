@@ -82,14 +82,14 @@ module _ {most n : ℕ} {v : List ℕ} (f : Writes most v (n / 10)) (ten : 10 �
     zero-alone = λ e. absurd (omega (arith, f .zero-alone (sym (byte-left v _ 0 (f .some)) ∙ e)));
   }
 
--- a number below the k-th power of ten takes k digits, however many it may have
-pub decimal-writes : (most k n : ℕ) → n < 10 ^ k → 1 ≤ k → k ≤ most → Writes k (decimal most n) n
+-- a number below a power of ten has no more digits than the power says, however many it may have
+pub decimal-writes : (most k n : ℕ) → n < 10 ^ most → n < 10 ^ k → 1 ≤ most → 1 ≤ k → Writes k (decimal most n) n
 unfolding decimal
-decimal-writes zero k n l m f = absurd (omega arith)
-decimal-writes (suc most) zero n l m f = absurd (omega arith)
-decimal-writes (suc most) (suc k) n l m f = ⊎-elim
+decimal-writes zero k n l h m f = absurd (omega arith)
+decimal-writes (suc most) zero n l h m f = absurd (omega arith)
+decimal-writes (suc most) (suc k) n l h m f = ⊎-elim
     (λ g. rw (lt-ltb n 10 g) (one-digit k n g))
-    (λ g. rw (le-ltb n 10 g) (one-digit-more (decimal-writes most k (n / 10) (omega (arith, pow-succ' 10 k)) (at-least k l g) (omega arith)) g))
+    (λ g. rw (le-ltb n 10 g) (one-digit-more (decimal-writes most k (n / 10) (omega (arith, pow-succ' 10 most)) (omega (arith, pow-succ' 10 k)) (at-least most l g) (at-least k h g)) g))
     (lt-or-le n 10)
   where
     at-least : (k : ℕ) → n < 10 ^ suc k → 10 ≤ n → 1 ≤ k

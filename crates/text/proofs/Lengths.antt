@@ -17,12 +17,12 @@ use Rattle.text.proofs.Decimals.{decimal-writes}
 
 numeral-length : (z : ℤ) → Short z → length (numeral z) ≤ 8
 unfolding numeral
-numeral-length (pos n) l = omega (arith, decimal-writes 7 7 n l (omega arith) (omega arith) .few)
-numeral-length (negsuc n) l = omega (arith, decimal-writes 7 7 (suc n) l (omega arith) (omega arith) .few)
+numeral-length (pos n) l = omega (arith, decimal-writes 7 7 n l l (omega arith) (omega arith) .few)
+numeral-length (negsuc n) l = omega (arith, decimal-writes 7 7 (suc n) l l (omega arith) (omega arith) .few)
 
 film-length : (z : ℤ) → isFilm z ≡ true → length (numeral z) ≤ 3
 unfolding numeral
-film-length z h = let v = film-small z h in rw (v .1) (decimal-writes 7 3 (mag z) (omega (arith, v .0)) (omega arith) (omega arith) .few)
+film-length z h = let v = film-small z h in rw (v .1) (decimal-writes 7 3 (mag z) (omega (arith, v .0)) (omega (arith, v .0)) (omega arith) (omega arith) .few)
 
 field-length : (z : ℤ) (b : ℕ) → length (withByte z b) ≡ length (numeral z) + 1
 unfolding withByte

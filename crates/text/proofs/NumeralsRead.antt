@@ -65,10 +65,10 @@ pub number-read : (s : List ℕ) (i : ℕ) (z : ℤ) → Short z → Spelled s i
     → numberAt s i ≡ read z (i + length (numeral z))
 unfolding numberAt numeral digitsAt withSign
 number-read s i (pos n) l h e =
-    let f = decimal-writes 7 7 n l (omega arith) (omega arith) in
+    let f = decimal-writes 7 7 n l l (omega arith) (omega arith) in
     rw (no-minus s i f h e) (numeral-read s i f h e false (λ q. absurd (not-both q refl)))
 number-read s i (negsuc n) l h e =
-    let f = decimal-writes 7 7 (suc n) l (omega arith) (omega arith) in
+    let f = decimal-writes 7 7 (suc n) l l (omega arith) (omega arith) in
     let m = minus-spelled s i (decimal 7 (suc n)) h in
     let q : i + suc (length (decimal 7 (suc n))) ≡ i + 1 + length (decimal 7 (suc n)) = omega arith in
     rw (m .0, q) (numeral-read s (i + 1) f (m .1) (rw q at e) true (λ t. omega arith))
