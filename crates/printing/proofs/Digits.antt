@@ -6,7 +6,7 @@ use mathlib.Core.Logic.{⊎-elim}
 use Prim.Native.Nat.{ℕ, zero, suc, _+_, _/_, _%_, _^_, _≤_, _<_}
 use native.Mathlib.Nat.{pow-succ'}
 use native.Mathlib.Omega.{arith}
-use lib.ListN.{length, length-append}
+use lib.ListN.{length}
 use borrow.Author.Tests.{lt-ltb, le-ltb}
 use Rattle.laws.proofs.Deciding.{lt-or-le}
 use Rattle.text.specs.Written as written
@@ -30,33 +30,16 @@ pub last-digit : (n : ℕ) → 10 ≤ n → decimal n ≡ decimal (n / 10) ++ ((
 unfolding decimal written.decimal
 last-digit n l = rw (le-ltb n 10 l, same-digits n (suc (n / 10)) (n / 10) (omega arith) (omega arith))
 
-few : (k most n : ℕ) → n < 10 ^ suc most → length (written.decimal k n) ≤ suc most
-unfolding written.decimal
-few zero most n h = omega arith
-few (suc k) most n h = ⊎-elim
-    (λ l. rw (lt-ltb n 10 l) (omega arith))
-    (λ l. rw (le-ltb n 10 l) (more most h l (few k)))
-    (lt-or-le n 10)
-  where
-    more : (most : ℕ) → n < 10 ^ suc most → 10 ≤ n → ((most m : ℕ) → m < 10 ^ suc most → length (written.decimal k m) ≤ suc most) → length (written.decimal k (n / 10) ++ ((48 + n % 10) ∷ [])) ≤ suc most
-    more zero h l below = absurd (omega arith)
-    more (suc most) h l below =
-        omega (
-          arith,
-          below most (n / 10) (omega (arith, pow-succ' 10 (suc most))),
-          length-append (written.decimal k (n / 10)) ((48 + n % 10) ∷ []),
-        )
-
--- a number below a power of ten has no more digits than the power says
-pub few-digits : (most n : ℕ) → n < 10 ^ suc most → length (decimal n) ≤ suc most
-unfolding decimal
-few-digits most n h = few (suc n) most n h
-
 below-power : (n : ℕ) → n < 10 ^ suc n
 below-power zero = omega arith
 below-power (suc n) = omega (arith, below-power n, pow-succ' 10 (suc n))
 
+-- a number below a power of ten has no more digits than the power says
+pub few-digits : (most n : ℕ) → n < 10 ^ suc most → length (decimal n) ≤ suc most
+unfolding decimal
+few-digits most n h = decimal-writes (suc n) (suc most) n (below-power n) h (omega arith) (omega arith) .few
+
 -- digits only, no zero in front of another digit, and the number comes out of them again
 pub decimal-is : (n : ℕ) → Writes (suc n) (decimal n) n
 unfolding decimal
-decimal-is n = decimal-writes (suc n) n (below-power n) (omega arith)
+decimal-is n = decimal-writes (suc n) (suc n) n (below-power n) (below-power n) (omega arith) (omega arith)

@@ -16,11 +16,11 @@ use Rattle.sheet.specs.declared.Answer.the-variants.{Accepted, Refused}
 use Rattle.sheet.specs.declared.Check.{Check}
 use Rattle.sheet.specs.declared.Check.the-variants as check
 use Rattle.sheet.specs.declared.Refusal.{Refusal}
-use Rattle.sheet.specs.declared.Refusal.the-variants.{NotWhole, TooMany, ListsDiffer, JournalShort, PastRange, EqualEnds, TopFalls, Repeated, Uneven, NoRow}
+use Rattle.sheet.specs.declared.Refusal.the-variants.{NotWhole, TooMany, ListsDiffer, JournalShort, PastRange, FilmPastRange, EqualEnds, TopFalls, Repeated, Uneven, NoRow}
 use Rattle.sheet.specs.Edges.{edgesIn, drawingOf}
 use Rattle.sheet.specs.Answers.{Call, numberOf, placeOf, checked, answered}
 use Rattle.sheet.proofs.Outlines.{sequence-small}
-use Rattle.checks.proofs.AnswerSheet.{Row, row, row-1, row-2, row-3, row-4, row-5, row-6, row-7, row-8, row-9, no-row}
+use Rattle.checks.proofs.AnswerSheet.{Row, row, row-1, row-2, row-3, row-4, row-5, row-16, row-6, row-7, row-8, row-9, no-row}
 use Rattle.checks.proofs.Passed.{passed}
 use Rattle.steps.specs.Swept.{rowsIn}
 use Rattle.text.specs.declared.Reading.{Reading}
@@ -34,7 +34,7 @@ use Rattle.numbering.specs.Promised.{Promised}
 use Rattle.numbering.proofs.Promising.{promised, accepted-call}
 use Rattle.printing.specs.declared.Printed.{Printed}
 use Rattle.printing.specs.declared.Printed.the-variants.{Bytes, TooShort}
-use Rattle.printing.specs.Output.{decimal, accepted, refused, edgeLine, edgeLines, answerLines, outcomeLines, lentFor, fourNumbers, edgesRead, readingLines, printed}
+use Rattle.printing.specs.Output.{decimal, accepted, refused, edgeLine, edgeLines, answerLines, outcomeLines, lentFor, fiveNumbers, edgesRead, readingLines, printed}
 use Rattle.printing.specs.Laid.{Page}
 use Rattle.printing.proofs.Digits.{few-digits}
 use Rattle.printing.proofs.EdgesRead.{all-read, malformed-at}
@@ -77,6 +77,7 @@ small-number TooMany = omega arith
 small-number ListsDiffer = omega arith
 small-number JournalShort = omega arith
 small-number (PastRange e) = omega arith
+small-number (FilmPastRange e) = omega arith
 small-number (EqualEnds e) = omega arith
 small-number (TopFalls e) = omega arith
 small-number (Repeated e) = omega arith
@@ -94,8 +95,9 @@ place-is-edge (row-2 w m) = omega arith
 place-is-edge (row-3 w m o) = omega arith
 place-is-edge (row-4 w m o j) = omega arith
 place-is-edge (row-5 l f p) = omega (arith, f .is-edge)
-place-is-edge (row-6 l f p q) = omega (arith, f .is-edge)
-place-is-edge (row-7 l f p q t) = omega (arith, f .is-edge)
+place-is-edge (row-16 l f p o) = omega (arith, f .is-edge)
+place-is-edge (row-6 l f p o q) = omega (arith, f .is-edge)
+place-is-edge (row-7 l f p o q t) = omega (arith, f .is-edge)
 place-is-edge (row-8 l f h) = omega (arith, h .is-edge)
 place-is-edge (row-9 l f r h) = omega (arith, h .is-edge)
 place-is-edge (no-row l f r u) = omega arith
@@ -168,21 +170,21 @@ module _ (l : Lent) where
     outcome-short n e = rw (← e) (lines-short (outcome l .answer) refl)
 
 -- the edges of n lines
-four-each : (f : ℕ → List ℤ) → ((i : ℕ) → length (f i) ≡ 4) → (n : ℕ) → length (listed f n) ≡ numbersPerEdge * n
+five-each : (f : ℕ → List ℤ) → ((i : ℕ) → length (f i) ≡ 5) → (n : ℕ) → length (listed f n) ≡ numbersPerEdge * n
 unfolding listed
-four-each f h zero = refl
-four-each f h (suc n) = length-append (listed f n) (f n) ∙ omega (arith, h n, four-each f h n)
+five-each f h zero = refl
+five-each f h (suc n) = length-append (listed f n) (f n) ∙ omega (arith, h n, five-each f h n)
 
 edges-in : (s : List ℕ) (n : ℕ) → edgesIn (edgesRead s n) ≡ n
 unfolding edgesIn
-edges-in s n = omega (arith, four-each (λ i. fourNumbers (edgeIn (lineOf s i))) (λ i. refl) n)
+edges-in s n = omega (arith, five-each (λ i. fiveNumbers (edgeIn (lineOf s i))) (λ i. refl) n)
 
 -- so is all that the program prints
 pub enough-page : (s : List ℕ) → length (printed s) ≤ 8192
 unfolding printed
-enough-page s = by (readingOf s 2048) refl
+enough-page s = by (readingOf s 2560) refl
   where
-    by : (r : Reading) → readingOf s 2048 ≡ r → length (readingLines s r) ≤ 8192
+    by : (r : Reading) → readingOf s 2560 ≡ r → length (readingLines s r) ≤ 8192
     by TooMuch e = short-refusal 2 0 (omega arith) (omega arith)
     by (Malformed line) e = short-refusal 15 line (omega arith) (omega (arith, malformed-at s line e))
     by (Edges n) e =

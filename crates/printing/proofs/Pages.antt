@@ -37,9 +37,9 @@ module _ {s l y : List ℕ} {n : ℕ} (a : Laid l 0 (printed s) y n) where
 refused-same : {l y : List ℕ} {k number number₁ place place₁ : ℕ} → number ≡ number₁ → place ≡ place₁ → Laid l 0 (refused number place) y k → Laid l 0 (refused number₁ place₁) y k
 refused-same p q a = rw (← p, ← q) a
 
--- a text read into a room of 2,048 numbers
-module _ (s : List ℕ) {before after : List ℤ} {reading : Reading} (room : length before ≡ 2048) (o : Outcome s before after reading) where
-  answer : readingOf s 2048 ≡ reading
+-- a text read into a room of 2,560 numbers
+module _ (s : List ℕ) {before after : List ℤ} {reading : Reading} (room : length before ≡ 2560) (o : Outcome s before after reading) where
+  answer : readingOf s 2560 ≡ reading
   answer = rw room at (sym (o .answer))
 
   pub few-edges : {n : ℕ} → reading ≡ Edges n → (n ≤ 512) × (numbersPerEdge * n ≤ length after)

@@ -65,13 +65,13 @@ outcomeLines n x = answerLines n (x .answer) (x .polygons) (x .sequences)
 abbrev pub lentFor : ℕ → List ℤ → Lent
 lentFor n list = lent list (replicate n 0) (replicate n 0) (replicate (journalNumbersPerEdge * n) (pos 0)) (replicate (numbersPerRow * 256) (pos 0))
 
--- an edge's four numbers in their order
-abbrev pub fourNumbers : Edge → List ℤ
-fourNumbers e = e .tail .x ∷ e .tail .y ∷ e .head .x ∷ e .head .y ∷ []
+-- an edge's five numbers in their order
+abbrev pub fiveNumbers : Edge → List ℤ
+fiveNumbers e = e .tail .x ∷ e .tail .y ∷ e .head .x ∷ e .head .y ∷ e .film ∷ []
 
 -- the edges of the first n lines
 abbrev pub edgesRead : List ℕ → ℕ → List ℤ
-edgesRead s n = listed (λ i. fourNumbers (edgeIn (lineOf s i))) n
+edgesRead s n = listed (λ i. fiveNumbers (edgeIn (lineOf s i))) n
 
 -- 01 Program 4: a text past the limits is refused by 2, the first malformed line by 15 with its number; otherwise the edges are numbered
 abbrev pub readingLines : List ℕ → Reading → List ℕ
@@ -79,6 +79,6 @@ readingLines s TooMuch = refused 2 0
 readingLines s (Malformed line) = refused 15 line
 readingLines s (Edges n) = outcomeLines n (outcome (lentFor n (edgesRead s n)))
 
--- the text is read into a room of four numbers for each of 512 lines
+-- the text is read into a room of five numbers for each of 512 lines
 unfoldable pub printed : List ℕ → List ℕ
 printed s = readingLines s (readingOf s (numbersPerEdge * 512))

@@ -22,8 +22,8 @@ pub enum Printed {
     TooShort,
 }
 
-// The numbers that the program lends: 512 edges of 4, lists of one an edge, a journal of 8 an edge, 256 rows of 8.
-const EDGES: usize = 2048;
+// The numbers that the program lends: 512 edges of 5, lists of one an edge, a journal of 8 an edge, 256 rows of 8.
+const EDGES: usize = 2560;
 
 const LIST: usize = 512;
 
