@@ -40,8 +40,8 @@ impl Place {
         if self.film != other.film {
             return false;
         }
-        let point = self.point;
-        point.same(other.point)
+        let here = self.point;
+        here.same(other.point)
     }
 
     // Whether this place is below the other, whatever their films.
