@@ -1,19 +1,26 @@
-//! Refusals 1 to 9 of document 01's answer sheet, each with its place, in the
-//! order in which the paper tries them: the lengths; then edge by edge the
-//! range, equal ends and the sweep order; then soundness over the whole list.
-//! Any list of any length is taken.
+//! Refusals 1 to 9 of document 01's answer sheet and 16 of request M-100, each
+//! with its place, in the order in which the papers try them: the lengths; then
+//! edge by edge the range, the film, equal ends and the sweep order; then
+//! soundness over the whole list. Any list of any length is taken.
 
 use std::collections::{BTreeMap, BTreeSet};
 
-use crate::geometry::{read_edges, Edge, Point, MOST_EDGES, NUMBERS_PER_EDGE};
+use crate::geometry::{read_edges, Edge, Point, Site, MOST_EDGES, NUMBERS_PER_EDGE};
 
 /// How many journal numbers must be lent for each edge.
 pub const JOURNAL_NUMBERS_PER_EDGE: usize = 8;
 
+/// The refusals of a numbering call, in the order in which they are tried; 5 to
+/// 7 with 16 edge by edge, in that order within an edge.
+pub const IN_ORDER: [u32; 11] = [1, 2, 3, 4, 5, 16, 6, 7, 8, 9, 10];
+
+/// Those of them that are tried edge by edge.
+pub const BY_EDGE: [u32; 4] = [5, 16, 6, 7];
+
 /// A refusal: its number in the paper and the place that it speaks of.
 #[derive(Clone, Copy, PartialEq, Eq, Hash, Debug)]
 pub struct Refusal {
-    /// 1 to 15.
+    /// 1 to 16.
     pub number: u32,
     /// An edge's place from 0 (refusal 15: a line from 1), or 0.
     pub place: u32,
@@ -64,13 +71,16 @@ fn check_lengths(numbers: usize, lengths: Lengths) -> Result<(), Refusal> {
     }
 }
 
-/// Refusals 5, 6 and 7: the first edge that is wrong by itself or stands
-/// after an edge with a higher top.
+/// Refusals 5, 16, 6 and 7: the first edge that is wrong by itself or stands
+/// after an edge with a higher top, of whatever film.
 fn check_edges(edges: &[Edge]) -> Result<(), Refusal> {
     let mut top_before: Option<Point> = None;
     for (place, edge) in edges.iter().enumerate() {
-        if !edge.tail.is_in_range() || !edge.head.is_in_range() {
+        if !edge.is_in_range() {
             return Err(Refusal::at(5, place));
+        }
+        if !edge.has_film_in_range() {
+            return Err(Refusal::at(16, place));
         }
         if edge.tail == edge.head {
             return Err(Refusal::at(6, place));
@@ -83,7 +93,7 @@ fn check_edges(edges: &[Edge]) -> Result<(), Refusal> {
     Ok(())
 }
 
-/// Refusal 8: two edges of one kind at one point.
+/// Refusal 8: two edges of one film and kind at one point.
 fn check_kinds(edges: &[Edge]) -> Result<(), Refusal> {
     let mut seen = BTreeSet::new();
     for (place, edge) in edges.iter().enumerate() {
@@ -96,14 +106,14 @@ fn check_kinds(edges: &[Edge]) -> Result<(), Refusal> {
     Ok(())
 }
 
-/// Refusal 9: a point where more edges arrive than leave, or fewer.
+/// Refusal 9: a point where more edges of a film arrive than leave, or fewer.
 fn check_balance(edges: &[Edge]) -> Result<(), Refusal> {
-    let mut balance: BTreeMap<Point, i32> = BTreeMap::new();
+    let mut balance: BTreeMap<Site, i32> = BTreeMap::new();
     for edge in edges {
-        *balance.entry(edge.head).or_insert(0) += 1;
-        *balance.entry(edge.tail).or_insert(0) -= 1;
+        *balance.entry(edge.site(edge.head)).or_insert(0) += 1;
+        *balance.entry(edge.site(edge.tail)).or_insert(0) -= 1;
     }
-    let differs = |edge: &Edge| balance[&edge.head] != 0 || balance[&edge.tail] != 0;
+    let differs = |edge: &Edge| edge.ends().iter().any(|(site, _)| balance[site] != 0);
     match edges.iter().position(differs) {
         Some(place) => Err(Refusal::at(9, place)),
         None => Ok(()),

@@ -1,12 +1,13 @@
-//! What the numbers are, with no sweep: the joining rule of document 01 leads
-//! from edge to edge, a closed round is an outline, outlines are numbered from
-//! the highest top down and edges from the one that leaves it. Beside it the
-//! two measures C and L of a list, from which the rows that always suffice
-//! follow. Only for sound lists.
+//! What the numbers are, with no sweep: the joining rule of document 01, within
+//! a film, leads from edge to edge; a closed round is an outline; outlines are
+//! numbered by where their top edges stand in the list, the last first, and
+//! edges from the one that leaves the top. Beside it the two measures C and L
+//! of a list, from which the rows that always suffice follow. Only for sound
+//! lists in sweep order.
 
 use std::collections::BTreeMap;
 
-use crate::geometry::{Edge, Kind, Point};
+use crate::geometry::{Edge, Kind, Point, Site};
 use crate::numbering::Numbering;
 
 /// For each edge the place of the edge that follows it.
@@ -16,11 +17,12 @@ use crate::numbering::Numbering;
 pub fn followers(edges: &[Edge]) -> Vec<usize> {
     let mut leaving = BTreeMap::new();
     for (place, edge) in edges.iter().enumerate() {
-        leaving.insert((edge.tail, edge.tail_side()), place);
+        leaving.insert((edge.site(edge.tail), edge.tail_side()), place);
     }
     let follower = |edge: &Edge| {
-        let own_side = leaving.get(&(edge.head, edge.head_side()));
-        let other_side = leaving.get(&(edge.head, edge.head_side().other()));
+        let (site, side) = (edge.site(edge.head), edge.head_side());
+        let own_side = leaving.get(&(site, side));
+        let other_side = leaving.get(&(site, side.other()));
         *own_side.or(other_side).expect("a sound list")
     };
     edges.iter().map(follower).collect()
@@ -44,9 +46,15 @@ pub fn outlines(edges: &[Edge]) -> Vec<Vec<usize>> {
             outlines.push(from_highest(edges, outline));
         }
     }
-    outlines.sort_by_key(|outline| edges[outline[0]].tail);
+    outlines.sort_by_key(|outline| later_top_edge(outline));
     outlines.reverse();
     outlines
+}
+
+/// Of the two edges of an outline at its top, where the later one stands in the
+/// list: of the edge that leaves the top and the one that it follows.
+fn later_top_edge(outline: &[usize]) -> usize {
+    outline[0].max(outline[outline.len() - 1])
 }
 
 /// The same round, begun at the edge that leaves its highest point.
@@ -69,8 +77,9 @@ pub fn numbering(edges: &[Edge]) -> Numbering {
     numbering
 }
 
-/// C: the most edges that pass any one point. An edge passes a point when its
-/// bottom is below the point and its top is not. The most is met at a top.
+/// C: the most edges, of all films together, that pass any one point. An edge
+/// passes a point when its bottom is below the point and its top is not. The
+/// most is met at a top.
 pub fn passing(edges: &[Edge]) -> usize {
     let passes = |point: Point| {
         let passing = |edge: &&Edge| edge.bottom() < point && edge.top() >= point;
@@ -100,12 +109,12 @@ fn floor_log2(number: usize) -> usize {
     (usize::BITS - 1 - number.leading_zeros()) as usize
 }
 
-/// The points at which edges of all four kinds meet, lowest first.
-pub fn touching_points(edges: &[Edge]) -> Vec<Point> {
-    let mut kinds: BTreeMap<Point, Vec<Kind>> = BTreeMap::new();
-    for (point, kind) in edges.iter().flat_map(|edge| edge.ends()) {
-        kinds.entry(point).or_default().push(kind);
+/// The sites at which edges of all four kinds meet, lowest first.
+pub fn touching_sites(edges: &[Edge]) -> Vec<Site> {
+    let mut kinds: BTreeMap<Site, Vec<Kind>> = BTreeMap::new();
+    for (site, kind) in edges.iter().flat_map(|edge| edge.ends()) {
+        kinds.entry(site).or_default().push(kind);
     }
     let all_four = kinds.into_iter().filter(|(_, kinds)| kinds.len() == 4);
-    all_four.map(|(point, _)| point).collect()
+    all_four.map(|(site, _)| site).collect()
 }

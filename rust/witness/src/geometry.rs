@@ -1,15 +1,15 @@
-//! Points and edges, as "Points, edges, joins" of document 01 has them.
-//! A point's order is height first, then x; the order, the limits, and an
-//! edge's top and bottom belong to the types here and are said nowhere else.
-//! Rests on nothing.
+//! Points and edges, as "Points, edges, joins" of document 01 has them, and
+//! their films, as request M-100 adds them. A point's order is height first,
+//! then x; the order, the limits, and an edge's top and bottom belong to the
+//! types here and are said nowhere else. Rests on nothing.
 
 use std::cmp::Ordering;
 
 /// The most edges that a list may hold.
 pub const MOST_EDGES: usize = 4096;
 
-/// How many numbers one edge takes in a list.
-pub const NUMBERS_PER_EDGE: usize = 4;
+/// How many numbers one edge takes in a list: two ends and a film.
+pub const NUMBERS_PER_EDGE: usize = 5;
 
 /// A point of the sheet.
 #[derive(Clone, Copy, PartialEq, Eq, Hash, Debug)]
@@ -48,19 +48,50 @@ impl PartialOrd for Point {
     }
 }
 
-/// A directed edge.
+/// A point of one film. Edges meet only within a film, so where edges of two
+/// films have an end at one point there are two sites.
+#[derive(Clone, Copy, PartialEq, Eq, PartialOrd, Ord, Hash, Debug)]
+pub struct Site {
+    /// The point.
+    pub point: Point,
+    /// The film.
+    pub film: i32,
+}
+
+/// A directed edge of a film.
 #[derive(Clone, Copy, PartialEq, Eq, PartialOrd, Ord, Hash, Debug)]
 pub struct Edge {
     /// Where it starts.
     pub tail: Point,
     /// Where it ends.
     pub head: Point,
+    /// The film that it cuts.
+    pub film: i32,
 }
 
 impl Edge {
-    /// The edge from `tail` to `head`.
-    pub fn new(tail: Point, head: Point) -> Edge {
-        Edge { tail, head }
+    /// The greatest film; the least is 0.
+    pub const MOST_FILM: i32 = 255;
+
+    /// The edge of a film from `tail` to `head`.
+    pub fn new(tail: Point, head: Point, film: i32) -> Edge {
+        Edge { tail, head, film }
+    }
+
+    /// Whether both ends keep within the limit.
+    pub fn is_in_range(self) -> bool {
+        self.tail.is_in_range() && self.head.is_in_range()
+    }
+
+    /// Whether there is such a film.
+    pub fn has_film_in_range(self) -> bool {
+        (0..=Edge::MOST_FILM).contains(&self.film)
+    }
+
+    /// A point in the edge's film.
+    pub fn site(self, point: Point) -> Site {
+        let film = self.film;
+        Site { point, film }
     }
 
     /// Whether the head is the higher end.
@@ -80,7 +111,12 @@ impl Edge {
 
     /// The same two ends, run the other way.
     pub fn reversed(self) -> Edge {
-        Edge::new(self.head, self.tail)
+        Edge::new(self.head, self.tail, self.film)
+    }
+
+    /// The same two ends in another film.
+    pub fn in_film(self, film: i32) -> Edge {
+        Edge::new(self.tail, self.head, film)
     }
 
     /// The side on which the edge comes to its tail.
@@ -101,11 +137,11 @@ impl Edge {
         }
     }
 
-    /// The two points that the edge touches, tail first, with its kind there.
-    pub fn ends(self) -> [(Point, Kind); 2] {
+    /// The two sites that the edge touches, tail first, with its kind there.
+    pub fn ends(self) -> [(Site, Kind); 2] {
         [
-            (self.tail, Kind::Leaves(self.tail_side())),
-            (self.head, Kind::Arrives(self.head_side())),
+            (self.site(self.tail), Kind::Leaves(self.tail_side())),
+            (self.site(self.head), Kind::Arrives(self.head_side())),
         ]
     }
 }
@@ -138,19 +174,22 @@ pub enum Kind {
     Leaves(Side),
 }
 
-/// Reads a list of numbers as edges, four numbers an edge; what is left over
-/// at the end is no edge.
+/// Reads a list of numbers as edges: tail x, tail y, head x, head y, film. What
+/// is left over at the end is no edge.
 pub fn read_edges(numbers: &[i32]) -> Vec<Edge> {
     let edge = |part: &[i32]| {
         let tail = Point::new(part[0], part[1]);
-        Edge::new(tail, Point::new(part[2], part[3]))
+        Edge::new(tail, Point::new(part[2], part[3]), part[4])
     };
     numbers.chunks_exact(NUMBERS_PER_EDGE).map(edge).collect()
 }
 
 /// Writes edges as a list of numbers.
 pub fn write_edges(edges: &[Edge]) -> Vec<i32> {
-    let numbers = |edge: &Edge| [edge.tail.x, edge.tail.y, edge.head.x, edge.head.y];
+    let numbers = |edge: &Edge| {
+        let (tail, head) = (edge.tail, edge.head);
+        [tail.x, tail.y, head.x, head.y, edge.film]
+    };
     edges.iter().flat_map(numbers).collect()
 }
 

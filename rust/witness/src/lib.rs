@@ -1,5 +1,6 @@
-//! A witness for the outline engine: the rules of document 01 written a second
-//! time, for clearness only, so that the engine can be held against it.
+//! A witness for the outline engine: the rules of document 01, and of request
+//! M-100 for films, written a second time, for clearness only, so that the
+//! engine can be held against it.
 //! `checks`, `steps`, `number`, `turns` and `text` answer as the engine must;
 //! `declared` says what the numbers are without any sweep; `call`, `vectors`
 //! and `generate` are what tests of either engine need.
@@ -7,7 +8,7 @@
 //! ```
 //! use witness::{number, Answer};
 //!
-//! let triangle = [0, 0, 4, 2, 4, 2, 1, 5, 1, 5, 0, 0];
+//! let triangle = [0, 0, 4, 2, 0, 4, 2, 1, 5, 0, 1, 5, 0, 0, 0];
 //! let (mut polygons, mut sequences) = ([0; 3], [0; 3]);
 //! let (mut journal, mut rows) = ([0; 24], [0; 8]);
 //! let answer = number(&triangle, &mut polygons, &mut sequences, &mut journal, &mut rows);

@@ -1,7 +1,7 @@
 //! The program `outline` of document 01 as a function of bytes: the two limits
 //! of its input, then the first malformed line, then the numbering with the
 //! rows that the program lends, printed last edge first.
-//! A line is well formed when single spaces part its four numbers and a newline
+//! A line is well formed when single spaces part its five numbers and a newline
 //! ends it.
 
 use crate::checks::{Refusal, JOURNAL_NUMBERS_PER_EDGE};
@@ -51,7 +51,7 @@ fn lines(input: &[u8]) -> Vec<&[u8]> {
     input.split_inclusive(|byte| *byte == b'\n').collect()
 }
 
-/// The four numbers of a line, unless it is malformed.
+/// The five numbers of a line, unless it is malformed.
 fn read_line(line: &[u8]) -> Option<Vec<i32>> {
     let text = line.strip_suffix(b"\n")?;
     let numbers = text.split(|byte| *byte == b' ').map(read_number);

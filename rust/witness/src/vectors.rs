@@ -12,6 +12,12 @@ use crate::json::string_bytes;
 use crate::number::Answer;
 use crate::turns::TurnAnswer;
 
+/// The cases of document 01 itself, with four numbers an edge.
+const BASE: &str = include_str!("../../vectors/base.txt");
+
+/// The cases of request M-100, with a film for every edge.
+const FILMS: &str = include_str!("../../vectors/M-100.txt");
+
 /// One case of a vector file.
 #[derive(Clone, PartialEq, Eq, Debug)]
 pub struct Case {
@@ -47,6 +53,45 @@ pub fn read_cases(text: &str) -> Result<Vec<Case>, String> {
         cases.push(Case { id, work });
     }
     Ok(cases)
+}
+
+/// All cases of the repository's vector files: those of document 01, read in
+/// film 0, and those of request M-100.
+pub fn all_cases() -> Result<Vec<Case>, String> {
+    let base = read_cases(BASE)?.into_iter().map(in_film_0);
+    Ok(base.chain(read_cases(FILMS)?).collect())
+}
+
+/// A case of document 01 with every edge in film 0, which leaves what must come
+/// of it as it was. Numbers that are no whole edge, and lines that are malformed,
+/// stay such.
+fn in_film_0(mut case: Case) -> Case {
+    match &mut case.work {
+        Work::Number(call, _) => call.edges = numbers_in_film_0(&call.edges),
+        Work::Program(input, _) => *input = lines_in_film_0(input),
+        Work::Turns(..) => {}
+    }
+    case
+}
+
+/// Each four numbers with a film after them.
+fn numbers_in_film_0(numbers: &[i32]) -> Vec<i32> {
+    let edges = numbers.chunks_exact(4);
+    let left_over = edges.remainder();
+    let mut filmed: Vec<i32> = edges.flat_map(|edge| [edge, &[0]].concat()).collect();
+    filmed.extend(left_over);
+    filmed
+}
+
+/// Each line with a film at its end. One that no newline ends is malformed as it
+/// is, and may be as long as the limit.
+fn lines_in_film_0(input: &[u8]) -> Vec<u8> {
+    let filmed = |line: &[u8]| match line.strip_suffix(b"\n") {
+        Some(text) => [text, b" 0\n"].concat(),
+        None => line.to_vec(),
+    };
+    let lines = input.split_inclusive(|byte| *byte == b'\n');
+    lines.flat_map(filmed).collect()
 }
 
 /// The lines of one block, looked up by how they begin.

@@ -1,14 +1,12 @@
-//! Every case of the vector file, every number of every slice. The vectors were
-//! worked by somebody else from document 01, so a rule misread here shows. The
-//! reader of the file is tested too: what it does not understand it must say.
+//! Every case of the vector files, every number of every slice. The vectors were
+//! worked by somebody else from the rules, so a rule misread here shows. The
+//! reader of the files is tested too: what it does not understand it must say.
 
 use std::collections::BTreeMap;
 
 use witness::json::string_bytes;
-use witness::vectors::{read_cases, Case, Work};
+use witness::vectors::{all_cases, read_cases, Case, Work};
 use witness::{number, outline, turns};
-
-const BASE: &str = include_str!("../../vectors/base.txt");
 
 fn check(case: &Case) {
     match &case.work {
@@ -28,20 +26,28 @@ fn check(case: &Case) {
 }
 
 #[test]
-fn every_case_of_the_base() {
-    let cases = read_cases(BASE).unwrap();
+fn every_case() {
+    let cases = all_cases().unwrap();
     cases.iter().for_each(check);
-    let mut operations = BTreeMap::new();
+    let mut met = BTreeMap::new();
     for case in &cases {
         let operation = match case.work {
             Work::Number(..) => "number",
             Work::Turns(..) => "turns",
             Work::Program(..) => "program",
         };
-        *operations.entry(operation).or_insert(0) += 1;
+        let file = case.id.split('/').next().unwrap();
+        *met.entry((file, operation)).or_insert(0) += 1;
     }
-    let expected = [("number", 79), ("program", 25), ("turns", 16)];
-    assert_eq!(operations, BTreeMap::from(expected));
+    let expected = [
+        (("base", "number"), 79),
+        (("base", "program"), 25),
+        (("base", "turns"), 16),
+        (("M-100", "number"), 101),
+        (("M-100", "program"), 53),
+        (("M-100", "turns"), 40),
+    ];
+    assert_eq!(met, BTreeMap::from(expected));
 }
 
 #[test]
@@ -85,7 +91,7 @@ fn files_that_are_not_understood() {
 
 #[test]
 fn a_changed_case_is_noticed() {
-    let cases = read_cases(BASE).unwrap();
+    let cases = all_cases().unwrap();
     let triangle = cases.iter().find(|case| case.id == "base/fixed/1");
     let mut triangle = triangle.unwrap().clone();
     check(&triangle);

@@ -1,18 +1,18 @@
 //! Calls spoilt on purpose: a sound call is changed so that one chosen refusal
-//! of document 01, 1 to 10, must come. Damage of a higher number can be done
-//! first and hidden by damage of a lower one, which shows the order in which
-//! the paper tries them.
+//! must come. Damage that is looked for later can be done first and hidden by
+//! damage that is looked for earlier, which shows the order in which the papers
+//! try them.
 
 use std::collections::BTreeSet;
 
 use crate::call::Call;
 use crate::declared::sufficient_rows;
-use crate::geometry::{read_edges, write_edges, Edge, Point, MOST_EDGES};
+use crate::geometry::{read_edges, write_edges, Edge, Point, MOST_EDGES, NUMBERS_PER_EDGE};
 use crate::steps::{sweep_up, NUMBERS_PER_ROW};
 
 use super::{any, Random};
 
-/// A call that must get this refusal, 1 to 10.
+/// A call that must get this refusal, one of those tried on a numbering call.
 pub fn damaged(random: &mut Random, refusal: u32) -> Call {
     loop {
         let sheet = any(random);
@@ -24,9 +24,9 @@ pub fn damaged(random: &mut Random, refusal: u32) -> Call {
     }
 }
 
-/// Changes a call, sound or damaged only with higher numbers, so that it must
-/// get this refusal. `false` when the call offers no place for this damage; it
-/// is then as before.
+/// Changes a call, sound or damaged only for refusals that are tried later, so
+/// that it must get this refusal. `false` when the call offers no place for this
+/// damage; it is then as before.
 pub fn damage(random: &mut Random, call: &mut Call, refusal: u32) -> bool {
     let has_edges = !call.edges.is_empty();
     match refusal {
@@ -40,12 +40,13 @@ pub fn damage(random: &mut Random, call: &mut Call, refusal: u32) -> bool {
         8 => has_edges && kind_taken(random, call),
         9 => has_edges && open_end(random, call),
         10 => too_few_rows(random, call),
+        16 => has_edges && no_such_film(random, call),
         _ => false,
     }
 }
 
 fn part_of_an_edge(random: &mut Random, call: &mut Call) -> bool {
-    for _ in 0..1 + random.below(3) {
+    for _ in 0..1 + random.below(NUMBERS_PER_EDGE - 1) {
         call.edges.push(random.between(-3, 3));
     }
     true
@@ -54,7 +55,7 @@ fn part_of_an_edge(random: &mut Random, call: &mut Call) -> bool {
 fn too_many_edges(random: &mut Random, call: &mut Call) -> bool {
     let length = MOST_EDGES + 1 + random.below(3);
     let mut edges = read_edges(&call.edges);
-    edges.push(Edge::new(Point::new(0, 0), Point::new(1, 1)));
+    edges.push(Edge::new(Point::new(0, 0), Point::new(1, 1), 0));
     let repeated: Vec<Edge> = edges.iter().copied().cycle().take(length).collect();
     call.edges = write_edges(&repeated);
     call.fit();
@@ -87,7 +88,8 @@ fn short_journal(random: &mut Random, call: &mut Call) -> bool {
 }
 
 fn past_the_range(random: &mut Random, call: &mut Call) -> bool {
-    let number = random.below(call.edges.len());
+    let edge = random.below(call.edges.len() / NUMBERS_PER_EDGE);
+    let number = NUMBERS_PER_EDGE * edge + random.below(4);
     let past = random.between(Point::LIMIT + 1, i32::MAX);
     let past = [Point::LIMIT + 1, i32::MAX, past][random.below(3)];
     call.edges[number] = if random.one_in(2) { past } else { -past };
@@ -97,11 +99,22 @@ fn past_the_range(random: &mut Random, call: &mut Call) -> bool {
     true
 }
 
+fn no_such_film(random: &mut Random, call: &mut Call) -> bool {
+    let mut edges = read_edges(&call.edges);
+    let below = random.between(i32::MIN, -1);
+    let above = random.between(Edge::MOST_FILM + 1, i32::MAX);
+    let films = [-1, Edge::MOST_FILM + 1, i32::MIN, i32::MAX, below, above];
+    let place = random.below(edges.len());
+    edges[place].film = films[random.below(films.len())];
+    call.edges = write_edges(&edges);
+    true
+}
+
 fn equal_ends(random: &mut Random, call: &mut Call) -> bool {
     let mut edges = read_edges(&call.edges);
     let place = random.below(edges.len());
     let end = [edges[place].tail, edges[place].head][random.below(2)];
-    edges[place] = Edge::new(end, end);
+    edges[place] = Edge::new(end, end, edges[place].film);
     call.edges = write_edges(&edges);
     true
 }
@@ -123,8 +136,8 @@ fn out_of_order(random: &mut Random, call: &mut Call) -> bool {
     true
 }
 
-/// Adds an edge that has one end of an edge that is there, and its kind at it;
-/// at times both ends.
+/// Adds an edge that has one end of an edge that is there, its film, and its
+/// kind at that end; at times both ends.
 fn kind_taken(random: &mut Random, call: &mut Call) -> bool {
     let mut edges = read_edges(&call.edges);
     if edges.len() == MOST_EDGES {
@@ -147,20 +160,18 @@ fn kind_taken(random: &mut Random, call: &mut Call) -> bool {
     true
 }
 
-/// Takes an edge away, or moves its bottom to where no edge of its kind is.
+/// Takes an edge away, or moves its bottom or lays it in another film, to where
+/// no edge of its kind is.
 fn open_end(random: &mut Random, call: &mut Call) -> bool {
     let mut edges = read_edges(&call.edges);
     let place = random.below(edges.len());
-    let taken: BTreeSet<_> = edges.iter().flat_map(|edge| edge.ends()).collect();
-    let bent = bent_bottom(random, edges[place]).filter(|bent| {
-        let bottom = bent.ends().into_iter().find(|end| end.0 == bent.bottom());
-        bottom.map_or(false, |end| !taken.contains(&end))
-    });
-    match bent {
-        Some(bent) if random.one_in(2) => edges[place] = bent,
-        _ => {
-            edges.remove(place);
-        }
+    let edge = edges.remove(place);
+    let taken: BTreeSet<_> = edges.iter().flat_map(|other| other.ends()).collect();
+    let other_film = edge.in_film(random.between(0, Edge::MOST_FILM));
+    let changed = [bent_bottom(random, edge), Some(other_film), None][random.below(3)];
+    let fits = |to: &Edge| *to != edge && !to.ends().iter().any(|end| taken.contains(end));
+    if let Some(changed) = changed.filter(fits) {
+        edges.insert(place, changed);
     }
     call.edges = write_edges(&edges);
     call.fit();
@@ -173,9 +184,9 @@ fn bent_bottom(random: &mut Random, edge: Edge) -> Option<Edge> {
     let x = bottom.x + random.between(-2, 2);
     let moved = Point::new(x, bottom.y - random.between(0, 2));
     let bent = if edge.is_up() {
-        Edge::new(moved, edge.head)
+        Edge::new(moved, edge.head, edge.film)
     } else {
-        Edge::new(edge.tail, moved)
+        Edge::new(edge.tail, moved, edge.film)
     };
     let kept = moved != bottom && moved < edge.top() && moved.is_in_range();
     Some(bent).filter(|_| kept)

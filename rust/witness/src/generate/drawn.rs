@@ -1,7 +1,7 @@
 //! Three shapes drawn by rule: the comb, with all its highest points side by
 //! side; the spiral, with all its chains inside one another; and the grid of
 //! squares, with many outlines at once. Each can be made as large as a list may
-//! be.
+//! be. All are of film 0.
 
 use crate::geometry::{Edge, Point};
 

@@ -1,10 +1,11 @@
 //! Sheets for tests: every maker here gives an edge list that is sound and in
-//! sweep order by document 01, with edges of equal tops in random order. All
-//! chance comes from a `Random`, whose seed is printed when a test fails.
-//! `damage` spoils a call so that a chosen refusal of 01 must come.
+//! sweep order by document 01, with edges of equal tops in random order, in one
+//! film or several. All chance comes from a `Random`, whose seed is printed when
+//! a test fails. `damage` spoils a call so that a chosen refusal must come.
 
 mod damage;
 mod drawn;
+mod films;
 mod order;
 mod pixels;
 mod random;
@@ -15,21 +16,23 @@ mod walks;
 
 pub use damage::{damage, damaged};
 pub use drawn::{comb, spiral, squares};
+pub use films::{in_films, layered, some_films};
 pub use order::{in_sweep_order, moved, turned_round};
-pub use pixels::pixels;
+pub use pixels::{mosaic, patchwork, pixels};
 pub use random::{Random, Seed};
 pub use saws::{saw, saws};
 pub use soups::soup;
 pub use walks::walks;
 
-/// An edge list as the engine reads it: four numbers an edge.
+/// An edge list as the engine reads it: five numbers an edge.
 pub type Sheet = Vec<i32>;
 
 /// A small sheet of any shape: at most some three hundred edges, mostly far
-/// fewer, now and then none, in half of the cases with some of its outlines
-/// run the other way, at times pushed into a corner of the range.
+/// fewer, now and then none, in one film to five, in half of the cases with some
+/// of its outlines run the other way, at times pushed into a corner of the range.
 pub fn any(random: &mut Random) -> Sheet {
-    let mut sheet = any_shape(random);
+    let films = some_films(random);
+    let mut sheet = any_shape(random, &films);
     if random.one_in(2) {
         sheet = turned_round(random, &sheet);
     }
@@ -39,33 +42,54 @@ pub fn any(random: &mut Random) -> Sheet {
     sheet
 }
 
-fn any_shape(random: &mut Random) -> Sheet {
+fn any_shape(random: &mut Random, films: &[i32]) -> Sheet {
     let reach = [2, 3, 6, 30, 1_000_000][random.below(5)];
-    let size = 1 + random.below(6);
+    let (size, side) = (1 + random.below(6), random.between(2, 6));
     match random.below(20) {
-        0..=6 => {
-            let side = random.between(2, 6);
+        0..=5 => {
             let tries = random.below(40);
-            walks(random, side, tries)
+            walks(random, side, tries, films)
         }
-        7..=11 => {
-            let (width, height) = (1 + random.below(9), 1 + random.below(9));
-            let (percent, merged) = (20 + random.below(61), random.one_in(2));
-            pixels(random, width, height, percent, merged)
+        6 => {
+            let one_film = walks(random, side, size, &[0]);
+            layered(random, &one_film, films)
         }
-        12 => comb(random, size),
-        13 => spiral(random, 2 * size),
-        14 => saw(random, size as u32),
-        15 => {
+        7..=11 => any_pixels(random, films),
+        12..=16 => {
+            let drawn = any_drawn(random, size);
+            in_films(random, &drawn, films)
+        }
+        17 => soup(random, 2 * size, 3, reach, films),
+        _ => {
+            let corners = 2 + random.below(30);
+            soup(random, size, corners, reach, films)
+        }
+    }
+}
+
+/// Pixel art: of films side by side, or of one whose outlines are each cut from
+/// a film of its own.
+fn any_pixels(random: &mut Random, films: &[i32]) -> Sheet {
+    let (width, height) = (1 + random.below(9), 1 + random.below(9));
+    let (percent, merged) = (20 + random.below(61), random.one_in(2));
+    if random.one_in(2) {
+        return mosaic(random, width, height, films, merged);
+    }
+    let one_film = pixels(random, width, height, percent, merged);
+    in_films(random, &one_film, films)
+}
+
+/// One of the shapes drawn by rule.
+fn any_drawn(random: &mut Random, size: usize) -> Sheet {
+    match random.below(5) {
+        0 => comb(random, size),
+        1 => spiral(random, 2 * size),
+        2 => saw(random, size as u32),
+        3 => {
             let outlines: Vec<Vec<usize>> = (0..size).map(|_| some_teeth(random)).collect();
             saws(random, &outlines)
         }
-        16 => squares(random, size, 7 - size),
-        17 => soup(random, 2 * size, 3, reach),
-        _ => {
-            let corners = 2 + random.below(30);
-            soup(random, size, corners, reach)
-        }
+        _ => squares(random, size, 7 - size),
     }
 }
 

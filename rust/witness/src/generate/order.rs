@@ -38,7 +38,7 @@ pub fn moved(random: &mut Random, sheet: &[i32]) -> Sheet {
     let at = |point: Point| Point::new(point.x + x, point.y + y);
     let pushed = edges
         .iter()
-        .map(|edge| Edge::new(at(edge.tail), at(edge.head)));
+        .map(|edge| Edge::new(at(edge.tail), at(edge.head), edge.film));
     write_edges(&pushed.collect::<Vec<Edge>>())
 }
 

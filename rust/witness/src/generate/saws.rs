@@ -2,7 +2,7 @@
 //! needs the most rows. A tooth is two teeth side by side, the right one wholly
 //! above the left one, and a peak above both that joins them; the smallest is a
 //! single lowest point. A saw is a row of teeth, large to small, and its
-//! joining peaks lie above all the teeth.
+//! joining peaks lie above all the teeth. All is of film 0.
 
 use crate::geometry::Point;
 

@@ -1,16 +1,16 @@
 //! Edges gathered so that the list stays sound by document 01: at each point at
-//! most one edge of each kind. Closed walks keep as many arriving as leaving,
-//! so a walk is taken whole or not at all.
+//! most one edge of each kind and film. Closed walks keep as many arriving as
+//! leaving, so a walk is taken whole or not at all.
 
 use std::collections::BTreeSet;
 
-use crate::geometry::{Edge, Kind, Point, MOST_EDGES};
+use crate::geometry::{Edge, Kind, Point, Site, MOST_EDGES};
 
 /// A growing sound list.
 #[derive(Clone, Default)]
 pub struct Sound {
     edges: Vec<Edge>,
-    taken: BTreeSet<(Point, Kind)>,
+    taken: BTreeSet<(Site, Kind)>,
 }
 
 impl Sound {
@@ -31,10 +31,11 @@ impl Sound {
         fits
     }
 
-    /// Takes the closed walk through these corners if all of it fits.
-    pub fn take_walk(&mut self, corners: &[Point]) -> bool {
+    /// Takes the closed walk of a film through these corners if all of it fits.
+    pub fn take_walk(&mut self, corners: &[Point], film: i32) -> bool {
         let length = self.edges.len();
-        let taken = closed(corners).into_iter().all(|edge| self.take(edge));
+        let walk = closed(corners);
+        let taken = walk.iter().all(|edge| self.take(edge.in_film(film)));
         if !taken {
             self.cut_back(length);
         }
@@ -61,12 +62,12 @@ impl Sound {
     }
 }
 
-/// The edges of the closed walk through these corners.
+/// The edges of the closed walk through these corners, in film 0.
 pub fn closed(corners: &[Point]) -> Vec<Edge> {
     let next = corners.iter().cycle().skip(1);
     corners
         .iter()
         .zip(next)
-        .map(|(tail, head)| Edge::new(*tail, *head))
+        .map(|(tail, head)| Edge::new(*tail, *head, 0))
         .collect()
 }

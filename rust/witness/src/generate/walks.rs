@@ -1,8 +1,8 @@
 //! Closed walks on a small grid of points, one laid over the other as long as
 //! the list stays sound: full of points where outlines touch, of crossings, of
-//! level edges and of edges that lie on one another.
+//! level edges and of edges that lie on one another, in one film or several.
 
-use crate::geometry::{Edge, Point};
+use crate::geometry::{Edge, Point, Site};
 
 use super::sound::Sound;
 use super::{in_sweep_order, Random, Sheet};
@@ -13,27 +13,28 @@ const LONGEST_WALK: usize = 24;
 /// How many next points are tried before a walk is given up.
 const TRIES_PER_STEP: usize = 10;
 
-/// Tries so many closed walks on a grid of `side` times `side` points and keeps
-/// those that can be kept.
-pub fn walks(random: &mut Random, side: i32, tries: usize) -> Sheet {
+/// Tries so many closed walks on a grid of `side` times `side` points, each in
+/// one of these films, and keeps those that can be kept.
+pub fn walks(random: &mut Random, side: i32, tries: usize, films: &[i32]) -> Sheet {
     let mut sound = Sound::default();
     for _ in 0..tries {
-        walk(random, side, &mut sound);
+        let film = films[random.below(films.len())];
+        walk(random, side, film, &mut sound);
     }
     in_sweep_order(random, sound.into_edges())
 }
 
 /// Adds one closed walk, or leaves the list as it was.
-fn walk(random: &mut Random, side: i32, sound: &mut Sound) {
+fn walk(random: &mut Random, side: i32, film: i32, sound: &mut Sound) {
     let length_before = sound.length();
     let start = grid_point(random, side);
-    let mut here = start;
+    let mut here = Site { point: start, film };
     while sound.length() < length_before + LONGEST_WALK {
-        if random.one_in(3) && sound.take(Edge::new(here, start)) {
+        if random.one_in(3) && sound.take(Edge::new(here.point, start, film)) {
             return;
         }
         match step(random, side, here, sound) {
-            Some(next) => here = next,
+            Some(next) => here.point = next,
             None => break,
         }
     }
@@ -41,10 +42,10 @@ fn walk(random: &mut Random, side: i32, sound: &mut Sound) {
 }
 
 /// Goes from here to some point that the list has room for.
-fn step(random: &mut Random, side: i32, here: Point, sound: &mut Sound) -> Option<Point> {
+fn step(random: &mut Random, side: i32, here: Site, sound: &mut Sound) -> Option<Point> {
     for _ in 0..TRIES_PER_STEP {
         let next = grid_point(random, side);
-        if sound.take(Edge::new(here, next)) {
+        if sound.take(Edge::new(here.point, next, here.film)) {
             return Some(next);
         }
     }

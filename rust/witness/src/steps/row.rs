@@ -1,8 +1,8 @@
-//! A row of document 01's sweep up: one chain, with how far its rising and its
-//! falling branch have come. How this lies in the eight numbers of a lent row
-//! is left open by the paper, so here it is a plain record.
+//! A row of document 01's sweep up: one chain of one film, with how far its
+//! rising and its falling branch have come. How this lies in the eight numbers
+//! of a lent row is left open by the paper, so here it is a plain record.
 
-use crate::geometry::{Edge, Point};
+use crate::geometry::{Edge, Point, Site};
 
 /// One of the two branches of a chain.
 #[derive(Clone, Copy)]
@@ -57,6 +57,8 @@ pub struct Reach {
 pub struct Row {
     /// The level of the edges that the chain is made of.
     pub level: i32,
+    /// Their film.
+    pub film: i32,
     /// Its rising branch.
     pub rising: Reach,
     /// Its falling branch.
@@ -65,14 +67,15 @@ pub struct Row {
 
 impl Row {
     /// A chain that so far is only its lowest point.
-    pub fn opened(level: i32, lowest: Point) -> Row {
+    pub fn opened(level: i32, lowest: Site) -> Row {
         let reach = Reach {
-            tip: lowest,
+            tip: lowest.point,
             length: 0,
             finished: false,
         };
         Row {
             level,
+            film: lowest.film,
             rising: reach,
             falling: reach,
         }
@@ -99,9 +102,13 @@ impl Row {
         self.rising.finished && self.falling.finished
     }
 
-    /// Whether a branch of this level may still grow at this point.
-    pub fn grows_at(&self, level: i32, branch: Branch, point: Point) -> bool {
+    /// Whether a branch of this level may still grow at this site.
+    pub fn grows_at(&self, level: i32, branch: Branch, site: Site) -> bool {
         let reach = self.reach(branch);
-        self.level == level && !reach.finished && reach.tip == point
+        let tip = Site {
+            point: reach.tip,
+            film: self.film,
+        };
+        self.level == level && !reach.finished && tip == site
     }
 }

@@ -1,10 +1,10 @@
 //! "The sweep up" of document 01: edges are hung on the rising and falling
 //! branches of chains, one row a chain; a chain finished on both sides is
-//! passed up as an edge of the next level. Each of the paper's four steps has
-//! its functions, said once for both directions with `Branch` choosing. Only
-//! for sound lists in sweep order.
+//! passed up as an edge of the next level. An edge hangs only on chains of its
+//! own film. Each of the paper's four steps has its functions, said once for
+//! both directions with `Branch` choosing. Only for sound lists in sweep order.
 
-use crate::geometry::{Edge, Point};
+use crate::geometry::{Edge, Point, Site};
 
 use super::row::{Branch, Lengths, Row};
 use super::{Record, NO_ROW};
@@ -69,11 +69,11 @@ impl Sweep {
             return Ok(());
         }
         let branch = Branch::of(edge);
-        let row = self.find_or_open(level, branch, edge.bottom())?;
+        let row = self.find_or_open(level, branch, edge.site(edge.bottom()))?;
         let offset = self.offset(row, branch, lengths);
         self.write_record(level, name, row as i32, offset);
         self.grow(row, branch, edge.top(), lengths);
-        self.finish(row, level, branch, edge.top())
+        self.finish(row, level, branch, edge.site(edge.top()))
     }
 
     /// Step 1: the row on whose branch the edge hangs, opened if need be.
@@ -81,7 +81,7 @@ impl Sweep {
         &mut self,
         level: i32,
         branch: Branch,
-        bottom: Point,
+        bottom: Site,
     ) -> Result<usize, NoFreeRow> {
         match self.find(level, branch, bottom) {
             Some(row) => Ok(row),
@@ -89,16 +89,16 @@ impl Sweep {
         }
     }
 
-    /// The row of this level whose unfinished branch has its tip here.
-    fn find(&self, level: i32, branch: Branch, point: Point) -> Option<usize> {
-        let grows = |row: &Row| row.grows_at(level, branch, point);
+    /// The row of this level and film whose unfinished branch has its tip here.
+    fn find(&self, level: i32, branch: Branch, site: Site) -> Option<usize> {
+        let grows = |row: &Row| row.grows_at(level, branch, site);
         self.rows
             .iter()
             .position(|row| row.as_ref().map_or(false, grows))
     }
 
     /// Opens the lowest free row.
-    fn open(&mut self, level: i32, lowest: Point) -> Result<usize, NoFreeRow> {
+    fn open(&mut self, level: i32, lowest: Site) -> Result<usize, NoFreeRow> {
         let free = self.rows.iter().position(|row| row.is_none());
         let row = free.unwrap_or(self.rows.len());
         if row >= self.lent {
@@ -147,7 +147,7 @@ impl Sweep {
         row: usize,
         level: i32,
         branch: Branch,
-        top: Point,
+        top: Site,
     ) -> Result<(), NoFreeRow> {
         let met = match self.find(level, branch.other(), top) {
             Some(met) => met,
@@ -169,7 +169,7 @@ impl Sweep {
         if !chain.is_finished() {
             return Ok(());
         }
-        let edge = Edge::new(chain.falling.tip, chain.rising.tip);
+        let edge = Edge::new(chain.falling.tip, chain.rising.tip, chain.film);
         let lengths = Lengths {
             falling: chain.falling.length,
             rising: chain.rising.length,
