@@ -2,8 +2,8 @@
 //! M-100 for films, written a second time, for clearness only, so that the
 //! engine can be held against it.
 //! `checks`, `steps`, `number`, `turns` and `text` answer as the engine must;
-//! `declared` says what the numbers are without any sweep; `call`, `vectors`
-//! and `generate` are what tests of either engine need.
+//! `declared` says what the numbers are without any sweep; `call`, `vectors`,
+//! `worked` and `generate` are what tests of either engine need.
 //!
 //! ```
 //! use witness::{number, Answer};
@@ -32,6 +32,7 @@ pub mod steps;
 pub mod text;
 pub mod turns;
 pub mod vectors;
+pub mod worked;
 
 pub use checks::Refusal;
 pub use number::{number, Answer};

@@ -1,20 +1,22 @@
 //! The makers of sheets make what they claim: sound lists in sweep order, the
-//! saws of the vector file, film on the left, outlines run both ways. Without
-//! this the other tests might pass on sheets that could not fail them.
+//! saws of the vector files, film on the left, outlines run both ways, films
+//! side by side and on one another. Without this the other tests might pass on
+//! sheets that could not fail them.
+
+use std::collections::BTreeSet;
 
 use witness::checks::{checked, Lengths};
 use witness::declared;
-use witness::generate::{any, comb, in_sweep_order, moved, pixels, saw, saws, spiral, squares};
-use witness::generate::{turned_round, Random, Sheet};
-use witness::geometry::{read_edges, twice_area, Edge, Point};
+use witness::generate::{any, comb, in_films, in_sweep_order, layered, mosaic, moved, patchwork};
+use witness::generate::{pixels, saw, saws, some_films, spiral, squares, turned_round, walks};
+use witness::generate::{Random, Sheet};
+use witness::geometry::{read_edges, twice_area, Edge, Point, NUMBERS_PER_EDGE};
 use witness::steps::sweep_up;
 use witness::text::read_list;
-use witness::vectors::{read_cases, Work};
-
-const BASE: &str = include_str!("../../vectors/base.txt");
+use witness::vectors::{all_cases, Work};
 
 fn is_sound(sheet: &Sheet) -> bool {
-    let edges = sheet.len() / 4;
+    let edges = sheet.len() / NUMBERS_PER_EDGE;
     let lengths = Lengths {
         polygons: edges,
         sequences: edges,
@@ -23,9 +25,9 @@ fn is_sound(sheet: &Sheet) -> bool {
     checked(sheet, lengths).is_ok()
 }
 
-/// The edge list of a case of the vector file.
+/// The edge list of a case of the vector files.
 fn vector(id: &str) -> Sheet {
-    let cases = read_cases(BASE).unwrap();
+    let cases = all_cases().unwrap();
     let case = cases.into_iter().find(|case| case.id == id).unwrap();
     match case.work {
         Work::Number(call, _) => call.edges,
@@ -70,10 +72,12 @@ fn saws_need_many_rows() {
 #[test]
 fn shapes_have_the_edges_they_claim() {
     let random = &mut Random::new(3);
-    assert_eq!(comb(random, 7).len(), 4 * 28);
-    assert_eq!(spiral(random, 9).len(), 4 * 18);
-    assert_eq!(squares(random, 3, 5).len(), 4 * 60);
-    assert_eq!(saw(random, 11).len(), 4 * 4094);
+    let edges = |sheet: Sheet| read_edges(&sheet).len();
+    assert_eq!(edges(comb(random, 7)), 28);
+    assert_eq!(edges(spiral(random, 9)), 18);
+    assert_eq!(edges(squares(random, 3, 5)), 60);
+    assert_eq!(edges(saw(random, 11)), 4094);
+    assert_eq!(edges(patchwork(random, 32, 32)), 4096);
     for sheet in [comb(random, 7), spiral(random, 9), saw(random, 4)] {
         assert_eq!(declared::outlines(&read_edges(&sheet)).len(), 1);
     }
@@ -98,6 +102,77 @@ fn film_lies_on_the_left() {
     }
 }
 
+/// The films of a list.
+fn films(edges: &[Edge]) -> BTreeSet<i32> {
+    edges.iter().map(|edge| edge.film).collect()
+}
+
+/// Each film by itself is pixel art, and every side that two films share is
+/// there twice, run opposite ways.
+#[test]
+fn neighbours_of_two_films_share_whole_sides() {
+    let mut shared = 0;
+    for seed in 0..200 {
+        let sheet = mosaic(&mut Random::new(seed), 6, 6, &[0, 7, 255], false);
+        let edges = read_edges(&sheet);
+        assert!(is_sound(&sheet), "seed {}", seed);
+        for film in films(&edges) {
+            let of_film = |edge: &&Edge| edge.film == film;
+            let alone: Vec<Edge> = edges.iter().filter(of_film).copied().collect();
+            assert!(twice_area(&alone) > 0, "seed {}", seed);
+        }
+        let turned = |edge: &Edge, film: i32| edge.reversed().in_film(film);
+        let is_shared = |edge: &&Edge| {
+            let others = [0, 7, 255].map(|film| turned(edge, film));
+            others.iter().any(|other| edges.contains(other))
+        };
+        shared += edges.iter().filter(is_shared).count();
+    }
+    assert!(shared > 5_000, "{}", shared);
+}
+
+#[test]
+fn every_pixel_of_a_patchwork_is_an_outline() {
+    let edges = read_edges(&patchwork(&mut Random::new(6), 32, 32));
+    assert_eq!(declared::outlines(&edges).len(), 1024);
+    assert_eq!(declared::longest(&edges), 4);
+    assert_eq!(films(&edges).len(), 256);
+}
+
+/// Outlines of one film that are laid in several films keep their numbers;
+/// laid on itself a sheet has each of its outlines in every film.
+#[test]
+fn one_film_laid_in_several() {
+    let (mut several, mut equal_tops) = (0, 0);
+    for seed in 0..300 {
+        let random = &mut Random::new(seed);
+        let one_film = walks(random, 4, 12, &[0]);
+        let count = declared::outlines(&read_edges(&one_film)).len();
+        let palette = some_films(random);
+        let spread = read_edges(&in_films(random, &one_film, &palette));
+        assert_eq!(declared::outlines(&spread).len(), count);
+        several += (films(&spread).len() > 1) as usize;
+        let on_itself = layered(random, &one_film, &palette);
+        assert!(is_sound(&on_itself), "seed {}", seed);
+        let layers = declared::outlines(&read_edges(&on_itself));
+        assert_eq!(layers.len(), count * palette.len());
+        equal_tops += (palette.len() > 1 && count > 0) as usize;
+    }
+    assert!(several > 100 && equal_tops > 100);
+}
+
+#[test]
+fn films_of_any_sheet() {
+    let (mut met, mut several) = (BTreeSet::new(), 0);
+    for seed in 0..500 {
+        let of_sheet = films(&read_edges(&any(&mut Random::new(seed))));
+        several += (of_sheet.len() > 1) as usize;
+        met.extend(of_sheet);
+    }
+    assert!(several > 150, "{}", several);
+    assert!(met.contains(&0) && met.contains(&Edge::MOST_FILM) && met.len() > 50);
+}
+
 #[test]
 fn changes_that_keep_a_sheet_sound() {
     let (mut turned, mut reordered, mut corners) = (0, 0, [0; 4]);
@@ -118,8 +193,10 @@ fn changes_that_keep_a_sheet_sound() {
         );
         turned += (sorted(&round) != sorted(&sheet)) as usize;
         reordered += (again != sheet) as usize;
-        let right = pushed.iter().step_by(2).any(|x| *x == Point::LIMIT);
-        let up = pushed.iter().skip(1).step_by(2).any(|y| *y == Point::LIMIT);
+        let pushed = read_edges(&pushed);
+        let ends = || pushed.iter().flat_map(|edge| [edge.tail, edge.head]);
+        let right = ends().any(|end| end.x == Point::LIMIT);
+        let up = ends().any(|end| end.y == Point::LIMIT);
         corners[2 * right as usize + up as usize] += 1;
     }
     assert!(turned > 200 && reordered > 200, "{} {}", turned, reordered);

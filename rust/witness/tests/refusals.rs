@@ -1,10 +1,12 @@
-//! Refusals 1 to 9 held against a statement of them that looks at all pairs of
-//! edges: for calls damaged on purpose once or twice, for lists of random
-//! numbers, and for every list of up to four edges on four points.
+//! Refusals 1 to 9 and 16 held against a statement of them that looks at all
+//! pairs of edges: for calls damaged on purpose once or twice, for lists of
+//! random numbers, and for every list of up to four edges on four points, in one
+//! film and in two.
 
 use std::collections::BTreeMap;
 
 use witness::call::Call;
+use witness::checks::{BY_EDGE, IN_ORDER};
 use witness::declared;
 use witness::generate::{any, damage, damaged, Random};
 use witness::geometry::read_edges;
@@ -12,11 +14,14 @@ use witness::{number, Answer, Refusal};
 
 type At = (i64, i64);
 
-/// What the table of document 01 says of a call, row by row; nothing when none
-/// of refusals 1 to 9 is due.
+/// An edge: its tail, its head and its film.
+type Ends = (At, At, i64);
+
+/// What the table of document 01, with M-100, says of a call, row by row;
+/// nothing when none of the refusals before 10 is due.
 fn stated(call: &Call) -> Option<(u32, u32)> {
-    let edges = call.edges.len() / 4;
-    if edges * 4 != call.edges.len() {
+    let edges = call.edges.len() / 5;
+    if edges * 5 != call.edges.len() {
         return Some((1, 0));
     }
     if edges >= 4097 {
@@ -29,15 +34,14 @@ fn stated(call: &Call) -> Option<(u32, u32)> {
         return Some((4, 0));
     }
     let numbers: Vec<i64> = call.edges.iter().map(|number| i64::from(*number)).collect();
-    let tail = |edge: usize| (numbers[4 * edge], numbers[4 * edge + 1]);
-    let head = |edge: usize| (numbers[4 * edge + 2], numbers[4 * edge + 3]);
-    let list: Vec<(At, At)> = (0..edges).map(|edge| (tail(edge), head(edge))).collect();
+    let ends = |edge: &[i64]| ((edge[0], edge[1]), (edge[2], edge[3]), edge[4]);
+    let list: Vec<Ends> = numbers.chunks(5).map(ends).collect();
     stated_by_itself(&list)
         .or_else(|| first(&list, |edge| has_earlier_kind(&list, edge)).map(|place| (8, place)))
         .or_else(|| first(&list, |edge| is_open(&list, edge)).map(|place| (9, place)))
 }
 
-fn first(list: &[(At, At)], fault: impl Fn(usize) -> bool) -> Option<u32> {
+fn first(list: &[Ends], fault: impl Fn(usize) -> bool) -> Option<u32> {
     let place = (0..list.len()).find(|edge| fault(*edge));
     place.map(|place| place as u32)
 }
@@ -46,7 +50,7 @@ fn is_below(one: At, other: At) -> bool {
     one.1 < other.1 || (one.1 == other.1 && one.0 < other.0)
 }
 
-fn top(edge: (At, At)) -> At {
+fn top(edge: Ends) -> At {
     if is_below(edge.0, edge.1) {
         edge.1
     } else {
@@ -54,35 +58,39 @@ fn top(edge: (At, At)) -> At {
     }
 }
 
-fn stated_by_itself(list: &[(At, At)]) -> Option<(u32, u32)> {
+fn stated_by_itself(list: &[Ends]) -> Option<(u32, u32)> {
     let past = |number: i64| number.abs() > 1_000_000;
-    for (place, (tail, head)) in list.iter().copied().enumerate() {
+    for (place, (tail, head, film)) in list.iter().copied().enumerate() {
         let faults = [
             past(tail.0) || past(tail.1) || past(head.0) || past(head.1),
+            film < 0 || film > 255,
             tail == head,
             place > 0 && is_below(top(list[place]), top(list[place - 1])),
         ];
         if let Some(fault) = faults.iter().position(|fault| *fault) {
-            return Some((5 + fault as u32, place as u32));
+            return Some((BY_EDGE[fault], place as u32));
         }
     }
     None
 }
 
-/// Whether an earlier edge has the same tail and runs the same way from it, or
-/// the same head and runs the same way into it.
-fn has_earlier_kind(list: &[(At, At)], edge: usize) -> bool {
-    let (tail, head) = list[edge];
+/// Whether an earlier edge of the same film has the same tail and runs the same
+/// way from it, or the same head and runs the same way into it.
+fn has_earlier_kind(list: &[Ends], edge: usize) -> bool {
+    let (tail, head, film) = list[edge];
     list[..edge].iter().any(|earlier| {
         let same_way = is_below(earlier.0, earlier.1) == is_below(tail, head);
-        same_way && (earlier.0 == tail || earlier.1 == head)
+        earlier.2 == film && same_way && (earlier.0 == tail || earlier.1 == head)
     })
 }
 
-fn is_open(list: &[(At, At)], edge: usize) -> bool {
+/// Whether at an end of the edge not as many edges of its film arrive as leave.
+fn is_open(list: &[Ends], edge: usize) -> bool {
+    let film = list[edge].2;
+    let of_film = || list.iter().filter(|other| other.2 == film);
     let differs = |point: At| {
-        let leaving = list.iter().filter(|other| other.0 == point).count();
-        let arriving = list.iter().filter(|other| other.1 == point).count();
+        let leaving = of_film().filter(|other| other.0 == point).count();
+        let arriving = of_film().filter(|other| other.1 == point).count();
         leaving != arriving
     };
     differs(list[edge].0) || differs(list[edge].1)
@@ -114,7 +122,7 @@ fn check(call: &Call, seed: u64) -> u32 {
 
 #[test]
 fn each_refusal_on_purpose() {
-    for refusal in 1..=10 {
+    for refusal in IN_ORDER {
         let calls = if refusal == 2 { 20 } else { 300 };
         for seed in 0..calls {
             let call = damaged(&mut Random::new(seed), refusal);
@@ -126,8 +134,8 @@ fn each_refusal_on_purpose() {
 #[test]
 fn two_faults_at_once() {
     let mut done = 0;
-    for second in 2..=10 {
-        for first in 1..second {
+    for (at, second) in IN_ORDER.into_iter().enumerate() {
+        for first in IN_ORDER.into_iter().take(at) {
             for seed in 0..if first == 2 { 5 } else { 60 } {
                 let mut random = Random::new(seed);
                 let mut call = damaged(&mut random, second);
@@ -135,7 +143,7 @@ fn two_faults_at_once() {
                     continue;
                 }
                 let got = check(&call, seed);
-                let by_edge = 5 <= first && second <= 7;
+                let by_edge = BY_EDGE.contains(&first) && BY_EDGE.contains(&second);
                 assert!(got == first || (by_edge && got == second));
                 done += 1;
             }
@@ -159,16 +167,23 @@ fn faults_within_one_edge() {
         Answer::Refused(Refusal { number, place }) => (number, place),
         Answer::Accepted { .. } => (0, 0),
     };
-    let far = 1_000_001;
-    assert_eq!(refusal(&[far, 0, far, 0]), (5, 0));
-    assert_eq!(refusal(&[0, 9, 1, 9, 0, -far, 1, 0]), (5, 1));
-    assert_eq!(refusal(&[0, 9, 1, 9, 3, 3, 3, 3]), (6, 1));
-    assert_eq!(refusal(&[0, 9, 1, 9, 3, 3, 4, 3, 5, 5, 5, 5]), (7, 1));
-    assert_eq!(refusal(&[0, 9, 1, 9, 5, 9, 5, 9, far, 0, 0, 0]), (6, 1));
-    assert_eq!(refusal(&[0, 0, 1, 0, 0, 0, 1, 0, 3, 3, 3, 3]), (6, 2));
-    assert_eq!(refusal(&[0, 0, 1, 0, 0, 0, 1, 0]), (8, 1));
-    assert_eq!(refusal(&[0, 0, 1, 0, 2, 0, 1, 0]), (9, 0));
-    assert_eq!(refusal(&[i32::MIN, i32::MIN, i32::MAX, i32::MAX]), (5, 0));
+    let (far, high, low) = (1_000_001, [0, 9, 1, 9, 3], [0, 0, 1, 0, 3]);
+    let second = |edge: [i32; 5]| refusal(&[high, edge].concat());
+    let third = |edge: [i32; 5]| refusal(&[low, low, edge].concat());
+    assert_eq!(refusal(&[far, 0, far, 0, 0]), (5, 0));
+    assert_eq!(second([0, -far, 1, 0, 3]), (5, 1));
+    assert_eq!(second([3, 3, 3, 3, 3]), (6, 1));
+    let falls = [3, 3, 4, 3, 3];
+    assert_eq!(refusal(&[high, falls, [5, 5, 5, 5, 3]].concat()), (7, 1));
+    let equal = [5, 9, 5, 9, 3];
+    assert_eq!(refusal(&[high, equal, [far, 0, 0, 0, 3]].concat()), (6, 1));
+    assert_eq!(third([3, 3, 3, 3, 3]), (6, 2));
+    assert_eq!(third([0, 0, 0, 0, -1]), (16, 2));
+    assert_eq!(third([0, 5, 1, 5, 3]), (8, 1));
+    assert_eq!(refusal(&[low, [0, 0, 1, 0, 4]].concat()), (9, 0));
+    assert_eq!(refusal(&[low, [2, 0, 1, 0, 3]].concat()), (9, 0));
+    let extremes = [i32::MIN, i32::MIN, i32::MAX, i32::MAX, i32::MIN];
+    assert_eq!(refusal(&extremes), (5, 0));
 }
 
 #[test]
@@ -179,9 +194,13 @@ fn lists_of_random_numbers() {
         let extremes = [i32::MIN, i32::MAX, -1_000_001, -1_000_000, 1_000_000];
         let length = match random.below(8) {
             0 => random.below(20),
-            _ => 4 * random.below(6),
+            _ => 5 * random.below(6),
         };
-        let mut edges: Vec<i32> = (0..length).map(|_| random.between(-1, 1)).collect();
+        let number = |random: &mut Random, at: usize| match at % 5 {
+            4 => [0, 0, 0, 1, random.between(-1, 1)][random.below(5)],
+            _ => random.between(-1, 1),
+        };
+        let mut edges: Vec<i32> = (0..length).map(|at| number(&mut random, at)).collect();
         if length > 0 && random.one_in(8) {
             edges[random.below(length)] = extremes[random.below(5)];
         }
@@ -197,27 +216,42 @@ fn lists_of_random_numbers() {
         *met.entry(check(&call, seed)).or_insert(0) += 1;
     }
     let all: Vec<u32> = met.into_keys().collect();
-    assert_eq!(all, [0, 1, 3, 4, 5, 6, 7, 8, 9, 10]);
+    assert_eq!(all, [0, 1, 3, 4, 5, 6, 7, 8, 9, 10, 16]);
 }
 
-/// Every list of this many edges on the points of a square.
-fn each_list(edges: u32, mut visit: impl FnMut(Vec<i32>)) {
-    for mut choice in 0..16_usize.pow(edges) {
+/// Every list of edges with these films on the points of a square.
+fn each_list(films: &[i32], mut visit: impl FnMut(Vec<i32>)) {
+    for mut choice in 0..16_usize.pow(films.len() as u32) {
         let mut list = Vec::new();
-        for _ in 0..edges {
-            let coordinate = |bit: usize| ((choice >> bit) & 1) as i32;
-            list.extend([0, 1, 2, 3].map(coordinate));
+        for film in films {
+            list.extend([0, 1, 2, 3].map(|bit| ((choice >> bit) & 1) as i32));
+            list.push(*film);
             choice >>= 4;
         }
         visit(list);
     }
 }
 
+/// The films of up to four edges. One film or the other makes no difference, and
+/// an outline has two edges or more.
+const FILMS: [&[i32]; 10] = [
+    &[],
+    &[0],
+    &[0, 0],
+    &[0, 1],
+    &[0, 0, 0],
+    &[0, 1, 0],
+    &[0, 0, 0, 0],
+    &[0, 0, 1, 1],
+    &[0, 1, 0, 1],
+    &[0, 1, 1, 0],
+];
+
 #[test]
 fn every_list_of_up_to_four_edges_on_four_points() {
     let mut met: BTreeMap<u32, usize> = BTreeMap::new();
-    for edges in 0..=4 {
-        each_list(edges, |list| {
+    for films in FILMS {
+        each_list(films, |list| {
             let call = Call::fitting(list, 2);
             let got = check(&call, 0);
             *met.entry(got).or_insert(0) += 1;

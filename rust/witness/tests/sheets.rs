@@ -6,9 +6,9 @@ use std::ops::Range;
 
 use witness::call::{Call, Outcome, TurnCall};
 use witness::declared;
-use witness::generate::{any, comb, pixels, saw, soup, spiral, squares, turned_round, walks};
-use witness::generate::{Random, Seed, Sheet};
-use witness::geometry::{read_edges, Edge, Point};
+use witness::generate::{any, comb, in_films, layered, mosaic, patchwork, pixels, saw, soup};
+use witness::generate::{some_films, spiral, squares, turned_round, walks, Random, Seed, Sheet};
+use witness::geometry::{read_edges, Edge, Point, Site};
 use witness::steps::{sweep_down, sweep_up};
 use witness::{number, turns, Answer, TurnAnswer};
 
@@ -27,6 +27,7 @@ struct Met {
     longest: usize,
     level_edges: usize,
     largest: usize,
+    equal_tops: usize,
 }
 
 /// Checks the sheet of each seed, naming the seed of the first that fails.
@@ -54,6 +55,7 @@ impl Met {
         self.longest = self.longest.max(other.longest);
         self.level_edges += other.level_edges;
         self.largest = self.largest.max(other.largest);
+        self.equal_tops += other.equal_tops;
     }
 }
 
@@ -74,6 +76,7 @@ fn check_sheet(random: &mut Random, sheet: &Sheet, met: &mut Met) {
     assert!(peak <= rows);
     check_rows(random, sheet, &outcome, peak, met);
     check_turns(&edges, &outcome, polygons);
+    check_tops(&edges);
     count(&edges, polygons, peak, met);
 }
 
@@ -148,6 +151,7 @@ fn check_turns(edges: &[Edge], outcome: &Outcome, polygons: usize) {
         let is_last = at + 1 == edges.len() || polygon(at + 1) != polygon(at);
         let next = if is_last { first } else { at + 1 };
         assert_eq!(edge(at).head, edge(next).tail);
+        assert_eq!(edge(at).film, edge(next).film);
     }
     let mut places = turned.turns.clone();
     places.sort_unstable();
@@ -155,7 +159,7 @@ fn check_turns(edges: &[Edge], outcome: &Outcome, polygons: usize) {
 }
 
 fn count(edges: &[Edge], polygons: usize, peak: usize, met: &mut Met) {
-    let touching = declared::touching_points(edges).len();
+    let touching = declared::touching_sites(edges).len();
     let records = sweep_up(edges, usize::MAX).unwrap().records;
     let level = records.iter().map(|record| record.level).max();
     let level_edge = |edge: &&Edge| edge.tail.y == edge.head.y;
@@ -171,7 +175,27 @@ fn count(edges: &[Edge], polygons: usize, peak: usize, met: &mut Met) {
         longest: declared::longest(edges),
         level_edges: edges.iter().filter(level_edge).count(),
         largest: edges.len(),
+        equal_tops: equal_tops(edges),
     });
+}
+
+/// How many outlines have the same top as another one, of another film.
+fn equal_tops(edges: &[Edge]) -> usize {
+    let outlines = declared::outlines(edges);
+    let mut tops: Vec<Point> = outlines.iter().map(|it| edges[it[0]].tail).collect();
+    tops.sort();
+    tops.dedup();
+    outlines.len() - tops.len()
+}
+
+/// Each outline's top is no higher than that of the one before it, equal tops
+/// are of two films.
+fn check_tops(edges: &[Edge]) {
+    let top = |outline: &Vec<usize>| edges[outline[0]].site(edges[outline[0]].tail);
+    let tops: Vec<Site> = declared::outlines(edges).iter().map(top).collect();
+    for pair in tops.windows(2) {
+        assert!(pair[0].point >= pair[1].point && pair[0] != pair[1]);
+    }
 }
 
 #[test]
@@ -185,13 +209,14 @@ fn sheets_of_every_shape() {
     assert!(met.level_edges > 50_000, "{}", met.level_edges);
     assert!(met.highest_level >= 5, "{}", met.highest_level);
     assert!(met.highest_peak >= 20, "{}", met.highest_peak);
+    assert!(met.equal_tops > 1_000, "{}", met.equal_tops);
 }
 
 #[test]
 fn touching_walks() {
     let make = |random: &mut Random| {
         let side = random.between(2, 8);
-        walks(random, side, 60)
+        walks(random, side, 60, &[9])
     };
     let met = check_seeds(100_000..105_000, make);
     assert!(met.touching_sheets > 4_500, "{}", met.touching_sheets);
@@ -210,8 +235,46 @@ fn pixel_art() {
 }
 
 #[test]
+fn films_on_one_another() {
+    let make = |random: &mut Random| {
+        let (side, films) = (random.between(2, 4), some_films(random));
+        let one_film = walks(random, side, 10, &[0]);
+        layered(random, &one_film, &films)
+    };
+    let met = check_seeds(400_000..401_000, make);
+    assert!(met.equal_tops > 1_000, "{}", met.equal_tops);
+}
+
+#[test]
+fn films_side_by_side() {
+    let make = |random: &mut Random| {
+        let (films, merged) = (some_films(random), random.one_in(2));
+        mosaic(random, 9, 8, &films, merged)
+    };
+    let met = check_seeds(500_000..500_300, make);
+    assert!(met.many_outlines > 280, "{}", met.many_outlines);
+    assert!(met.touching_sheets > 200, "{}", met.touching_sheets);
+}
+
+/// A sheet of one film answers as before, journal and all, when its outlines are
+/// laid in several films.
+#[test]
+fn films_of_outlines_that_do_not_matter() {
+    for seed in 600_000..600_500 {
+        let seed = Seed(seed);
+        let random = &mut seed.random();
+        let one_film = walks(random, 5, 40, &[0]);
+        let rows = declared::sufficient_rows(&read_edges(&one_film));
+        let films = some_films(random);
+        let several = in_films(random, &one_film, &films);
+        let outcome = |sheet: Sheet| Call::fitting(sheet, rows).outcome(number);
+        assert_eq!(outcome(one_film), outcome(several));
+    }
+}
+
+#[test]
 fn long_outlines_in_general_position() {
-    let make = |random: &mut Random| soup(random, 2, 150, 1_000_000);
+    let make = |random: &mut Random| soup(random, 2, 150, 1_000_000, &[0, 1]);
     let met = check_seeds(300_000..300_300, make);
     assert!(met.longest >= 150 && met.highest_level >= 4);
 }
@@ -226,9 +289,11 @@ fn large_sheets() {
     assert_eq!(check_seeds(5..6, make).largest, 4096);
     let make = |random: &mut Random| pixels(random, 52, 52, 50, false);
     assert!(check_seeds(6..8, make).touching_points > 400);
-    let make = |random: &mut Random| soup(random, 1, 4096, 1_000_000);
+    let make = |random: &mut Random| soup(random, 1, 4096, 1_000_000, &[255]);
     assert_eq!(check_seeds(8..9, make).longest, 4096);
-    let make = |random: &mut Random| walks(random, 26, 2_000);
+    let make = |random: &mut Random| patchwork(random, 32, 32);
+    assert_eq!(check_seeds(8..9, make).largest, 4096);
+    let make = |random: &mut Random| walks(random, 26, 2_000, &[0, 1, 2]);
     let touching = check_seeds(9..11, make).touching_points;
     assert!(touching > 300, "{}", touching);
 }

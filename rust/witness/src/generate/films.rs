@@ -3,7 +3,7 @@
 //! edges meet only within a film.
 
 use crate::declared::outlines;
-use crate::geometry::{read_edges, Edge};
+use crate::geometry::{read_edges, write_edges, Edge};
 
 use super::{in_sweep_order, Random, Sheet};
 
@@ -21,7 +21,8 @@ pub fn some_films(random: &mut Random) -> Vec<i32> {
     films
 }
 
-/// A sheet of one film with each of its outlines in one of these films.
+/// A sheet of one film with each of its outlines in one of these films; the
+/// edges stay in their order.
 pub fn in_films(random: &mut Random, sheet: &[i32], films: &[i32]) -> Sheet {
     let mut edges = read_edges(sheet);
     for outline in outlines(&edges) {
@@ -30,7 +31,7 @@ pub fn in_films(random: &mut Random, sheet: &[i32], films: &[i32]) -> Sheet {
             edges[place].film = film;
         }
     }
-    in_sweep_order(random, edges)
+    write_edges(&edges)
 }
 
 /// A sheet of one film laid on itself, once in each of these films, which are
