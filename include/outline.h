@@ -28,9 +28,11 @@ extern "C" {
 
 /* How much of everything. */
 enum {
-    OUTLINE_NUMBERS_PER_EDGE = 4,         /* tail x, tail y, head x, head y */
+    OUTLINE_NUMBERS_PER_EDGE = 5,         /* tail x, tail y, head x, head y,
+                                             film */
     OUTLINE_MOST_EDGES = 4096,            /* in one list */
     OUTLINE_LIMIT = 1000000,              /* coordinates: -limit to limit */
+    OUTLINE_MOST_FILM = 255,              /* films: 0 to this one */
     OUTLINE_JOURNAL_NUMBERS_PER_EDGE = 8, /* to lend, at least */
     OUTLINE_NUMBERS_PER_RECORD = 4,       /* level, name, row, offset */
     OUTLINE_NUMBERS_PER_ROW = 8           /* to lend for each row */
@@ -41,14 +43,14 @@ enum {
  * the place of an edge in the list, from 0, where an edge is named below, and 0
  * otherwise.
  *
- * 1 to 4 are tried first. Then the first edge with any of 5, 6, 7 decides, in
- * that order within an edge. Then 8 is tried over the whole list, then 9, then
- * 10. Likewise 11, 12, 13 and 14 one after the other.
+ * 1 to 4 are tried first. Then the first edge with any of 5, 16, 6, 7 decides,
+ * in that order within an edge. Then 8 is tried over the whole list, then 9,
+ * then 10. Likewise 11, 12, 13 and 14 one after the other.
  */
 enum {
     OUTLINE_ACCEPTED = 0,
     /* outline_number */
-    OUTLINE_NOT_WHOLE = 1,      /* the list's length is no multiple of 4 */
+    OUTLINE_NOT_WHOLE = 1,      /* the list's length is no multiple of 5 */
     OUTLINE_TOO_MANY = 2,       /* more than 4,096 edges */
     OUTLINE_LISTS_DIFFER = 3,   /* polygons or sequences: not one an edge */
     OUTLINE_JOURNAL_SHORT = 4,  /* fewer than 8 numbers an edge */
@@ -56,10 +58,12 @@ enum {
     OUTLINE_EQUAL_ENDS = 6,     /* the edge begins where it ends */
     OUTLINE_TOP_FALLS = 7,      /* its top is below the top before it */
     OUTLINE_REPEATED = 8,       /* it arrives at a point, or leaves one, on the
-                                   side on which an earlier edge does */
+                                   side on which an earlier edge of its film
+                                   does */
     OUTLINE_UNEVEN = 9,         /* it has an end where arriving and leaving
-                                   edges are not equally many */
+                                   edges of its film are not equally many */
     OUTLINE_NO_ROW = 10,        /* too few rows: when it was treated */
+    OUTLINE_FILM_PAST_RANGE = 16, /* the edge has a film past 0 to 255 */
     /* outline_turns */
     OUTLINE_TURN_LENGTHS = 11,  /* the lengths differ, or are above 4,096 */
     OUTLINE_NO_POLYGON = 12,    /* the edge has polygon number 0 */
@@ -89,11 +93,14 @@ typedef struct {
 /*
  * Numbers a list of edges.
  *
- *   edges      four numbers an edge, in sweep order: no edge has its higher end
+ *   edges      five numbers an edge, in sweep order: no edge has its higher end
  *              below that of the edge before it, a point being higher by y and
- *              at equal y by x. Not changed.
+ *              at equal y by x, whatever the films. Edges meet only within a
+ *              film: neighbours of two films may share whole sides. Not changed.
  *   polygons   one number an edge: its outline, from 1. The outline with the
- *              highest top is number 1.
+ *              highest top is number 1. Two films' outlines may have the same
+ *              top: of the two edges that each has there, take the later one in
+ *              the list; whose stands later has the smaller number.
  *   sequences  one number an edge: its place round its outline, from 0. The
  *              edge that leaves the highest point has 0.
  *   journal    8 numbers an edge or more. Holds the records of the sweep up
@@ -105,9 +112,9 @@ typedef struct {
  * Refused: polygons and sequences are as they were; so are journal and rows,
  * but for refusal 10, which leaves both all zeros.
  *
- * How many rows to lend: let C be the most edges that pass any one point (its
- * lower end is below the point, its higher end is not) and L the number of
- * edges of the longest outline. C times the whole part of log2 L rows are
+ * How many rows to lend: let C be the most edges, of all films, that pass any one
+ * point (its lower end is below the point, its higher end is not) and L the number
+ * of edges of the longest outline. C times the whole part of log2 L rows are
  * always enough. Who does not know L may take the number of all edges. The
  * answer's peak is the exact number for this list: with so many it is accepted
  * again, with fewer it gets refusal 10. Lending more costs their clearing only.

@@ -4,13 +4,14 @@
 //! with the list. The engine itself is proved and comes as a static library;
 //! this crate is a thin safe face over it.
 //!
-//! An edge is four numbers: tail x, tail y, head x, head y. The whole list in,
-//! all the numbers out:
+//! An edge is five numbers: tail x, tail y, head x, head y, film. Edges meet only
+//! within a film, so neighbours of two films may share whole sides. The whole
+//! list in, all the numbers out:
 //!
 //! ```
 //! use outline::Outlines;
 //!
-//! let triangle = [0, 0, 4, 2, 4, 2, 1, 5, 1, 5, 0, 0];
+//! let triangle = [0, 0, 4, 2, 7, 4, 2, 1, 5, 7, 1, 5, 0, 0, 7];
 //! let outlines = Outlines::of(&triangle)?;
 //! assert_eq!(outlines.count(), 1);
 //! assert_eq!(outlines.polygons(), [1, 1, 1]);
@@ -41,14 +42,17 @@ pub use refusal::Refusal;
 pub use rows::rows_enough;
 pub use turns::{turns, TurnAnswer};
 
-/// How many numbers an edge takes in a list: tail x, tail y, head x, head y.
-pub const NUMBERS_PER_EDGE: usize = 4;
+/// How many numbers an edge takes in a list: tail x, tail y, head x, head y, film.
+pub const NUMBERS_PER_EDGE: usize = 5;
 
 /// The most edges that a list may hold.
 pub const MOST_EDGES: usize = 4096;
 
 /// The greatest coordinate, on either side of zero.
 pub const LIMIT: i32 = 1_000_000;
+
+/// The greatest film; the least is 0.
+pub const MOST_FILM: i32 = 255;
 
 /// How many numbers must be lent to the journal for each edge.
 pub const JOURNAL_NUMBERS_PER_EDGE: usize = 8;

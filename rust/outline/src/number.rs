@@ -24,7 +24,7 @@ pub enum Answer {
 /// allocated, and no length and no number makes the call panic: what does not
 /// fit is refused.
 ///
-/// - `edges`: four numbers an edge, in sweep order.
+/// - `edges`: five numbers an edge, in sweep order.
 /// - `polygons`, `sequences`: one number an edge. When accepted they hold each
 ///   edge's outline, from 1, and its place round it, from 0; a refusal leaves
 ///   them as they were.
@@ -34,13 +34,12 @@ pub enum Answer {
 ///   at the risk of refusal 10. What they hold before does not matter. When
 ///   accepted they are all zero.
 ///
-/// Refusals 1 to 9 leave journal and rows as they were, refusal 10 leaves them
-/// all zero.
+/// Refusal 10 leaves journal and rows all zero, every other as they were.
 ///
 /// ```
 /// use outline::{number, Answer};
 ///
-/// let triangle = [0, 0, 4, 2, 4, 2, 1, 5, 1, 5, 0, 0];
+/// let triangle = [0, 0, 4, 2, 7, 4, 2, 1, 5, 7, 1, 5, 0, 0, 7];
 /// let (mut polygons, mut sequences) = ([0; 3], [0; 3]);
 /// let (mut journal, mut rows) = ([0; 24], [0; 8]);
 /// let answer = number(&triangle, &mut polygons, &mut sequences, &mut journal, &mut rows);

@@ -12,17 +12,18 @@ use crate::{JOURNAL_NUMBERS_PER_EDGE, NUMBERS_PER_EDGE, NUMBERS_PER_ROW};
 /// ```
 /// use outline::Outlines;
 ///
-/// // Two outlines that touch at the point (1, 6).
-/// let touching = [
-///     3, 2, 1, 6, 1, 6, 3, 0, 1, 6, 2, 7, 3, 0, 6, 8, 6, 8, 3, 2, 2, 7, 0, 9, 0, 9, 1, 6,
+/// // A square of film 0 and one of film 1, with the side x = 2 between them.
+/// let neighbours = [
+///     0, 0, 2, 0, 0, 2, 0, 4, 0, 1, 0, 2, 0, 0, 0, 2, 0, 2, 2, 0, //
+///     2, 2, 0, 2, 0, 2, 2, 2, 0, 1, 4, 0, 4, 2, 1, 4, 2, 2, 2, 1,
 /// ];
-/// let outlines = Outlines::of(&touching)?;
+/// let outlines = Outlines::of(&neighbours)?;
 /// assert_eq!(outlines.count(), 2);
-/// assert_eq!(outlines.polygons(), [2, 2, 1, 2, 2, 1, 1]);
-/// assert_eq!(outlines.sequences(), [1, 2, 1, 3, 0, 2, 0]);
-/// assert_eq!(outlines.places(1), [6, 2, 5]);
-/// assert_eq!(outlines.places(2), [4, 0, 1, 3]);
-/// assert_eq!((outlines.peak(), outlines.records()), (4, 11));
+/// assert_eq!(outlines.polygons(), [2, 1, 2, 2, 2, 1, 1, 1]);
+/// assert_eq!(outlines.sequences(), [2, 2, 1, 3, 0, 1, 3, 0]);
+/// assert_eq!(outlines.places(1), [7, 5, 1, 6]);
+/// assert_eq!(outlines.places(2), [4, 2, 0, 3]);
+/// assert_eq!((outlines.peak(), outlines.records()), (2, 10));
 /// # Ok::<(), outline::Refusal>(())
 /// ```
 #[derive(Clone, PartialEq, Eq, Debug)]
@@ -85,7 +86,8 @@ impl Outlines {
     }
 
     /// Each edge's outline, from 1, in list order. Outlines are numbered from
-    /// the one with the highest top down.
+    /// the one with the highest top down. Of two films' outlines with the same
+    /// top the one whose later top edge stands later in the list comes first.
     pub fn polygons(&self) -> &[u32] {
         &self.polygons
     }

@@ -11,7 +11,7 @@ use std::fmt;
 /// ```
 /// use outline::{Outlines, Refusal};
 ///
-/// let refusal = Outlines::of(&[5, 5, 5, 5]).unwrap_err();
+/// let refusal = Outlines::of(&[5, 5, 5, 5, 0]).unwrap_err();
 /// assert_eq!(refusal, Refusal::EqualEnds { edge: 0 });
 /// assert_eq!((refusal.number(), refusal.place()), (6, 0));
 /// println!("{}", refusal);
@@ -28,7 +28,7 @@ use std::fmt;
 #[derive(Clone, Copy, PartialEq, Eq, Hash, Debug)]
 #[non_exhaustive]
 pub enum Refusal {
-    /// 1: the list's length is no multiple of four.
+    /// 1: the list's length is no multiple of five.
     NotWhole,
     /// 2: the list has more than 4,096 edges.
     TooMany,
@@ -51,14 +51,15 @@ pub enum Refusal {
         /// The first edge whose top is below the top before it.
         edge: u32,
     },
-    /// 8: two edges arrive at a point, or leave it, on one side.
+    /// 8: two edges of a film arrive at a point, or leave it, on one side.
     Repeated {
-        /// The first edge of a kind that an earlier edge has at the same point.
+        /// The first edge of a film and kind that an earlier edge has at the
+        /// same point.
         edge: u32,
     },
-    /// 9: at a point not as many edges arrive as leave.
+    /// 9: at a point not as many edges of a film arrive as leave.
     Uneven {
-        /// The first edge with an end at such a point.
+        /// The first edge of that film with an end at such a point.
         edge: u32,
     },
     /// 10: the rows lent do not suffice.
@@ -88,6 +89,11 @@ pub enum Refusal {
     Malformed {
         /// The first such line, from 1.
         line: u32,
+    },
+    /// 16: a film is past 0 to 255.
+    FilmPastRange {
+        /// The first such edge.
+        edge: u32,
     },
     /// A number that this crate does not know. It comes only from an archive
     /// that is newer than the crate.
@@ -120,12 +126,13 @@ impl Refusal {
             12 => Refusal::NoPolygon { edge },
             13 => Refusal::PairRepeated { edge },
             14 => Refusal::Gap { edge },
+            16 => Refusal::FilmPastRange { edge },
             _ => Refusal::Unknown { number, place },
         };
         Some(refusal)
     }
 
-    /// The refusal's number in the rules, 1 to 15.
+    /// The refusal's number in the rules, 1 to 16.
     pub fn number(self) -> u32 {
         match self {
             Refusal::NotWhole => 1,
@@ -143,6 +150,7 @@ impl Refusal {
             Refusal::PairRepeated { .. } => 13,
             Refusal::Gap { .. } => 14,
             Refusal::Malformed { .. } => 15,
+            Refusal::FilmPastRange { .. } => 16,
             Refusal::Unknown { number, .. } => number,
         }
     }
@@ -168,7 +176,8 @@ impl Refusal {
             | Refusal::NoRow { edge }
             | Refusal::NoPolygon { edge }
             | Refusal::PairRepeated { edge }
-            | Refusal::Gap { edge } => Some(edge),
+            | Refusal::Gap { edge }
+            | Refusal::FilmPastRange { edge } => Some(edge),
             _ => None,
         }
     }
@@ -191,10 +200,10 @@ impl Refusal {
                 "has its higher end below the higher end of the edge before it"
             }
             Refusal::Repeated { .. } => {
-                "arrives at a point, or leaves one, on the same side of it as an earlier edge does"
+                "arrives at a point, or leaves one, on the same side of it as an earlier edge of its film does"
             }
             Refusal::Uneven { .. } => {
-                "has an end where not as many edges arrive as leave, so that an outline is open there"
+                "has an end where not as many edges of its film arrive as leave, so that an outline is open there"
             }
             Refusal::NoRow { .. } => "finds no free row",
             Refusal::TurnLengths => {
@@ -208,6 +217,7 @@ impl Refusal {
                 "comes after a gap: no edge has the sequence number, or the polygon number, one below its own"
             }
             Refusal::Malformed { .. } => "is malformed",
+            Refusal::FilmPastRange { .. } => "has a film below 0 or above 255",
             Refusal::Unknown { .. } => "the engine refuses for a reason that is not known here",
         }
     }
@@ -216,7 +226,7 @@ impl Refusal {
     fn remedy(self) -> &'static str {
         match self {
             Refusal::NotWhole => {
-                "give every edge four numbers: tail x, tail y, head x, head y"
+                "give every edge five numbers: tail x, tail y, head x, head y, film"
             }
             Refusal::TooMany => "split the sheet",
             Refusal::ListsDiffer => "make both as long as there are edges",
@@ -240,8 +250,9 @@ impl Refusal {
                 "number polygons from 1 and the edges of each from 0, leaving none out"
             }
             Refusal::Malformed { .. } => {
-                "write four whole numbers of up to seven digits with one space between them, no needless zeros, and a newline after the last"
+                "write five whole numbers of up to seven digits with one space between them, no needless zeros, and a newline after the last"
             }
+            Refusal::FilmPastRange { .. } => "give it one of the 256 films",
             Refusal::Unknown { .. } => "build the program again with the archive that it is used with",
         }
     }

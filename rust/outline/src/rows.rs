@@ -8,21 +8,21 @@ type Point = (i32, i32);
 /// A number of rows with which refusal 10 never comes: C times the whole part
 /// of log2 of the number of edges.
 ///
-/// C is the most edges that pass any one point; an edge passes a point when its
-/// lower end is below that point and its higher end is not. With L the number
-/// of edges of the longest outline, C times the whole part of log2 L rows are
-/// always enough: the engine's contract says so, and it is proved (the clause
-/// `enough-rows` in crates/numbering/specs/Promised.antt). Before the list is numbered L is not known, but no outline
-/// has more edges than the list, and a greater L only makes the product
-/// greater. So the number is never too small. It may be larger than needed:
-/// [`Answer::Accepted`] gives the peak, with which the same list is accepted
-/// too.
+/// C is the most edges, of all films, that pass any one point; an edge passes a
+/// point when its lower end is below that point and its higher end is not. With
+/// L the number of edges of the longest outline, C times the whole part of log2
+/// L rows are always enough: the engine's contract says so, and it is proved
+/// (the clause `enough-rows` in crates/numbering/specs/Promised.antt). Before
+/// the list is numbered L is not known, but no outline has more edges than the
+/// list, and a greater L only makes the product greater. So the number is never
+/// too small. It may be larger than needed: [`Answer::Accepted`] gives the peak,
+/// with which the same list is accepted too.
 ///
 /// For a list that the engine refuses, whatever its fault, any number would do.
 /// The cost is that of sorting the edges' ends.
 ///
 /// ```
-/// let two_peaks = [3, 2, 1, 6, 1, 6, 3, 0, 3, 0, 6, 8, 6, 8, 3, 2];
+/// let two_peaks = [3, 2, 1, 6, 0, 1, 6, 3, 0, 0, 3, 0, 6, 8, 0, 6, 8, 3, 2, 0];
 /// // All four edges pass the points just above (3, 2), and log2 of 4 is 2.
 /// assert_eq!(outline::rows_enough(&two_peaks), 8);
 /// assert_eq!(outline::rows_enough(&[]), 0);

@@ -1,5 +1,5 @@
 //! Sheets as text, in the form that the program `outline` reads: a line an
-//! edge, four whole numbers with one space between, a newline after. The
+//! edge, five whole numbers with one space between, a newline after. The
 //! program's own limits, 512 lines and 20,480 bytes, are not kept here; a list
 //! may be as long as the engine takes it.
 
@@ -15,8 +15,8 @@ pub const MOST_DIGITS: usize = 7;
 /// use outline::text::read_sheet;
 /// use outline::Refusal;
 ///
-/// assert_eq!(read_sheet(b"0 0 1 1\n1 1 0 0\n"), Ok(vec![0, 0, 1, 1, 1, 1, 0, 0]));
-/// assert_eq!(read_sheet(b"0 0 1 1\n1 1 0\n"), Err(Refusal::Malformed { line: 2 }));
+/// assert_eq!(read_sheet(b"0 0 1 1 7\n1 1 0 0 7\n"), Ok(vec![0, 0, 1, 1, 7, 1, 1, 0, 0, 7]));
+/// assert_eq!(read_sheet(b"0 0 1 1 7\n1 1 0 0\n"), Err(Refusal::Malformed { line: 2 }));
 /// ```
 pub fn read_sheet(text: &[u8]) -> Result<Vec<i32>, Refusal> {
     let mut edges = Vec::new();
@@ -30,7 +30,7 @@ pub fn read_sheet(text: &[u8]) -> Result<Vec<i32>, Refusal> {
     Ok(edges)
 }
 
-/// The four numbers of a line, unless it is malformed.
+/// The five numbers of a line, unless it is malformed.
 fn read_line(line: &[u8]) -> Option<[i32; NUMBERS_PER_EDGE]> {
     let text = line.strip_suffix(b"\n")?;
     let mut words = text.split(|byte| *byte == b' ');
@@ -69,9 +69,12 @@ fn read_number(word: &[u8]) -> Option<i32> {
 /// out.
 ///
 /// ```
-/// assert_eq!(outline::text::write_sheet(&[0, 0, -1, 1]), "0 0 -1 1\n");
+/// assert_eq!(outline::text::write_sheet(&[0, 0, -1, 1, 7]), "0 0 -1 1 7\n");
 /// ```
 pub fn write_sheet(edges: &[i32]) -> String {
-    let line = |edge: &[i32]| format!("{} {} {} {}\n", edge[0], edge[1], edge[2], edge[3]);
+    let line = |edge: &[i32]| {
+        let words: Vec<String> = edge.iter().map(i32::to_string).collect();
+        words.join(" ") + "\n"
+    };
     edges.chunks_exact(NUMBERS_PER_EDGE).map(line).collect()
 }

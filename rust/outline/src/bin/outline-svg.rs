@@ -12,8 +12,9 @@ outline-svg: draw a numbered sheet as SVG
   outline-svg [FILE]   reads FILE, or standard input where there is none or it
                        is -, and writes the picture to standard output
 
-A sheet has a line for each edge: tail x, tail y, head x, head y, with one space
-between and a newline after, in sweep order.
+A sheet has a line for each edge: tail x, tail y, head x, head y, film, with one
+space between and a newline after, in sweep order. An outline is drawn in the
+colour of its film.
 
 Exit status: 0 drawn; 1 the sheet is refused; 2 bad usage, or reading or writing
 failed.

@@ -1,25 +1,25 @@
-//! A colour for each outline. From one to the next the hue goes round by the
-//! golden angle, which keeps near numbers far apart; the lightness changes
-//! every eight. No two of the outlines that a list can have are alike.
+//! A colour for each film. From one to the next the hue goes round by the golden
+//! angle, which keeps near numbers far apart; the lightness changes every eight.
+//! No two films are alike.
 
-/// The golden angle in hundredths of a degree, and the hue of outline 1.
+/// The golden angle in hundredths of a degree, and the hue of film 0.
 const STEP: usize = 13_751;
 const FIRST: usize = 21_000;
 
 /// The whole circle in hundredths of a degree.
 const CIRCLE: usize = 36_000;
 
-/// How many outlines in a row share a lightness.
+/// How many films in a row share a lightness.
 const SHARED: usize = 8;
 
 /// The lightnesses, and how strong all colours are.
 const LIGHTNESS: [f64; 7] = [0.41, 0.33, 0.49, 0.29, 0.45, 0.37, 0.31];
 const STRENGTH: f64 = 0.74;
 
-/// The colour of an outline, from 1, as SVG writes it.
-pub fn of_outline(number: usize) -> String {
-    let turn = number.saturating_sub(1);
-    let hue = (FIRST + turn % CIRCLE * STEP) % CIRCLE;
+/// The colour of a film, as SVG writes it.
+pub fn of_film(film: i32) -> String {
+    let turn = film as usize;
+    let hue = (FIRST + turn * STEP) % CIRCLE;
     let lightness = LIGHTNESS[turn / SHARED % LIGHTNESS.len()];
     let [red, green, blue] = rgb(hue as f64 / 6_000.0, lightness);
     format!("#{:02x}{:02x}{:02x}", red, green, blue)
@@ -40,13 +40,13 @@ fn rgb(hue: f64, lightness: f64) -> [u8; 3] {
 #[cfg(test)]
 mod tests {
     use super::*;
+    use crate::MOST_FILM;
     use std::collections::BTreeSet;
 
-    /// An outline has two edges or more, so a list has at most 2,048.
     #[test]
-    fn no_two_outlines_share_a_colour() {
-        let colours: BTreeSet<String> = (1..=2048).map(of_outline).collect();
-        assert_eq!(colours.len(), 2048);
+    fn no_two_films_share_a_colour() {
+        let colours: BTreeSet<String> = (0..=MOST_FILM).map(of_film).collect();
+        assert_eq!(colours.len(), 256);
     }
 
     #[test]

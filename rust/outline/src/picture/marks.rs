@@ -1,6 +1,9 @@
 //! The marks of a sheet, from the bottom layer to the top: film, edges with
 //! arrow heads, rings, tops with the outlines' numbers.
 
+use std::cmp::Reverse;
+use std::collections::BTreeMap;
+
 use super::canvas::{shown, shown_spot, Canvas};
 use super::colour;
 use super::frame::Frame;
@@ -25,20 +28,21 @@ pub fn draw(sheet: &Sheet, frame: &Frame, canvas: &mut Canvas) {
         draw_edges(round, frame, canvas);
     }
     draw_rings(sheet, frame, canvas);
-    for round in &sheet.rounds {
-        draw_top(round, frame, canvas);
+    for (round, top) in sheet.rounds.iter().zip(tops(sheet, frame)) {
+        draw_top(round, top, frame, canvas);
     }
 }
 
 /// Film lies on the left of each edge: an outline that holds film is tinted, a
-/// hole is white. The larger come first, so that a hole lies on its surround.
+/// hole is white. The larger come first, so that a hole lies on its surround,
+/// and a hole before another film that fills it.
 fn draw_film(sheet: &Sheet, frame: &Frame, canvas: &mut Canvas) {
     let mut rounds: Vec<&Round> = sheet.rounds.iter().collect();
-    rounds.sort_by_key(|round| std::cmp::Reverse(round.area().abs()));
+    rounds.sort_by_key(|round| (Reverse(round.area().abs()), round.area() > 0));
     canvas.open("stroke=\"none\" fill-rule=\"evenodd\"");
     for round in rounds {
         let film = if round.area() > 0 {
-            let colour = colour::of_outline(round.number);
+            let colour = colour::of_film(round.film);
             format!("fill=\"{}\" fill-opacity=\"0.13\"", colour)
         } else {
             "fill=\"#ffffff\"".to_string()
@@ -57,7 +61,7 @@ fn line(round: &Round, frame: &Frame) -> String {
 
 /// The edges of an outline, each with an arrow head past its middle.
 fn draw_edges(round: &Round, frame: &Frame, canvas: &mut Canvas) {
-    let colour = colour::of_outline(round.number);
+    let colour = colour::of_film(round.film);
     canvas.add(&format!(
         "<path class=\"outline\" fill=\"none\" stroke=\"{}\" stroke-width=\"{}\" stroke-linejoin=\"round\" d=\"{}\"/>",
         colour,
@@ -115,7 +119,7 @@ fn arrow_head(way: &Way, size: f64) -> String {
     )
 }
 
-/// A ring round every point where four edges meet.
+/// A ring round every point where four edges of a film meet.
 fn draw_rings(sheet: &Sheet, frame: &Frame, canvas: &mut Canvas) {
     for point in &sheet.touching {
         draw_ring(frame.spot(*point), frame.size, canvas);
@@ -136,11 +140,25 @@ pub fn draw_ring(middle: Spot, size: f64, canvas: &mut Canvas) {
     canvas.circle(middle, RING * size, &ring);
 }
 
+/// Where the tops of the outlines are marked. Outlines of several films may have
+/// one top; their marks lie in a row from it to the left, inside the picture.
+pub fn tops(sheet: &Sheet, frame: &Frame) -> Vec<Spot> {
+    let mut marked: BTreeMap<Point, f64> = BTreeMap::new();
+    let mut tops = Vec::new();
+    for round in &sheet.rounds {
+        let before = marked.entry(round.corners[0]).or_insert(0.0);
+        let mut top = frame.spot(round.corners[0]);
+        top.x = (top.x - *before * 2.0 * DISC * frame.size).max(0.0);
+        *before += 1.0;
+        tops.push(top);
+    }
+    tops
+}
+
 /// The top of an outline: a disc with its number, or a dot where there is no
 /// room for numbers.
-fn draw_top(round: &Round, frame: &Frame, canvas: &mut Canvas) {
-    let top = frame.spot(round.corners[0]);
-    let colour = colour::of_outline(round.number);
+fn draw_top(round: &Round, top: Spot, frame: &Frame, canvas: &mut Canvas) {
+    let colour = colour::of_film(round.film);
     if frame.numbered {
         draw_disc(top, frame.size, &colour, &round.number.to_string(), canvas);
     } else {

@@ -1,7 +1,7 @@
-//! A sheet drawn as SVG: every outline in its own colour with its number at its
-//! top, every edge with an arrow head and its sequence number, a ring round
-//! every point where four edges meet, y upwards. The same list gives the same
-//! bytes on every machine.
+//! A sheet drawn as SVG: every outline in the colour of its film with its number
+//! at its top, every edge with an arrow head and its sequence number, a ring
+//! round every point where four edges of a film meet, y upwards. The same list
+//! gives the same bytes on every machine.
 
 mod canvas;
 mod colour;
@@ -25,7 +25,7 @@ pub const MOST_NUMBERED: usize = 400;
 /// Numbers a list and draws it.
 ///
 /// ```
-/// let svg = outline::picture::draw(&[0, 0, 4, 2, 4, 2, 1, 5, 1, 5, 0, 0])?;
+/// let svg = outline::picture::draw(&[0, 0, 4, 2, 7, 4, 2, 1, 5, 7, 1, 5, 0, 0, 7])?;
 /// assert!(svg.starts_with("<svg ") && svg.ends_with("</svg>\n"));
 /// # Ok::<(), outline::Refusal>(())
 /// ```
@@ -46,9 +46,10 @@ pub fn draw(edges: &[i32]) -> Result<String, Refusal> {
 /// What the picture shows, in words.
 fn title(sheet: &Sheet, outlines: &Outlines) -> String {
     format!(
-        "Outlines: {}, edges: {}, touching points: {}, peak: {}, records: {}",
+        "Outlines: {}, edges: {}, films: {}, touching points: {}, peak: {}, records: {}",
         outlines.count(),
         sheet.edges,
+        sheet.films,
         sheet.touching.len(),
         outlines.peak(),
         outlines.records()

@@ -5,7 +5,7 @@
 use super::canvas::{shown, Canvas};
 use super::colour;
 use super::frame::Frame;
-use super::marks::{Way, DISC, RING};
+use super::marks::{tops, Way, DISC, RING};
 use super::plane::Spot;
 use super::sheet::Sheet;
 
@@ -35,7 +35,7 @@ pub fn draw(sheet: &Sheet, frame: &Frame, canvas: &mut Canvas) {
     ));
     let mut edge = 0;
     for round in &sheet.rounds {
-        canvas.open(&format!("fill=\"{}\"", colour::of_outline(round.number)));
+        canvas.open(&format!("fill=\"{}\"", colour::of_film(round.film)));
         for sequence in 0..round.corners.len() {
             canvas.plain_text(room.place(edge), "", &sequence.to_string());
             edge += 1;
@@ -58,11 +58,12 @@ impl Room {
     fn of(sheet: &Sheet, frame: &Frame, letters: f64) -> Room {
         let edges = sheet.rounds.iter().flat_map(|round| round.edges());
         let ways = edges.map(|edge| Way::of(edge, frame)).collect();
-        let tops = sheet.rounds.iter().map(|round| (round.corners[0], DISC));
-        let rings = sheet.touching.iter().map(|point| (*point, RING));
+        let tops = tops(sheet, frame).into_iter().map(|top| (top, DISC));
+        let rings = sheet.touching.iter();
+        let rings = rings.map(|point| (frame.spot(*point), RING));
         let taken = tops
             .chain(rings)
-            .map(|(point, radius)| (frame.spot(point), radius * frame.size))
+            .map(|(spot, radius)| (spot, radius * frame.size))
             .collect();
         Room {
             letters,

@@ -1,7 +1,7 @@
-//! What is drawn: the corners of each outline in turn order, and the points
-//! where four edges meet.
+//! What is drawn: the film of each outline with its corners in turn order, and
+//! the points where four edges of a film meet.
 
-use std::collections::BTreeMap;
+use std::collections::{BTreeMap, BTreeSet};
 
 use crate::outlines::Outlines;
 use crate::NUMBERS_PER_EDGE;
@@ -9,11 +9,13 @@ use crate::NUMBERS_PER_EDGE;
 /// A point of the list: x, y.
 pub type Point = (i32, i32);
 
-/// One outline: its number and its corners, from its top on. The edge with
-/// sequence number n leaves the corner n.
+/// One outline: its number, its film and its corners, from its top on. The edge
+/// with sequence number n leaves the corner n.
 pub struct Round {
     /// The outline's number.
     pub number: usize,
+    /// The film of its edges.
+    pub film: i32,
     /// The tails of its edges.
     pub corners: Vec<Point>,
 }
@@ -38,8 +40,10 @@ impl Round {
 pub struct Sheet {
     /// The outlines in the order of their numbers.
     pub rounds: Vec<Round>,
-    /// The points where four edges meet, lowest first.
+    /// The points where four edges of a film meet, lowest first.
     pub touching: Vec<Point>,
+    /// How many films there are.
+    pub films: usize,
     /// How many edges there are.
     pub edges: usize,
 }
@@ -47,17 +51,21 @@ pub struct Sheet {
 impl Sheet {
     /// The sheet of a list and its numbering.
     pub fn new(edges: &[i32], outlines: &Outlines) -> Sheet {
-        let tail = |place: &u32| {
+        let edge = |place: &u32| {
             let at = NUMBERS_PER_EDGE * *place as usize;
-            (edges[at], edges[at + 1])
+            &edges[at..at + NUMBERS_PER_EDGE]
         };
+        let tail = |place: &u32| (edge(place)[0], edge(place)[1]);
         let round = |number: usize| Round {
             number,
+            film: edge(&outlines.places(number)[0])[4],
             corners: outlines.places(number).iter().map(tail).collect(),
         };
         let rounds: Vec<Round> = (1..=outlines.count()).map(round).collect();
+        let films: BTreeSet<i32> = rounds.iter().map(|round| round.film).collect();
         Sheet {
             touching: met_twice(&rounds),
+            films: films.len(),
             rounds,
             edges: edges.len() / NUMBERS_PER_EDGE,
         }
@@ -71,12 +79,25 @@ impl Sheet {
     }
 }
 
-/// The points that outlines come to twice: two edges arrive and two leave.
+/// The points that outlines of one film come to twice: two of its edges arrive
+/// and two leave.
 fn met_twice(rounds: &[Round]) -> Vec<Point> {
-    let mut times: BTreeMap<(i32, i32), usize> = BTreeMap::new();
-    for (x, y) in rounds.iter().flat_map(|round| round.corners.iter()) {
-        *times.entry((*y, *x)).or_insert(0) += 1;
+    let of_round = |round: &Round| {
+        let film = round.film;
+        let corner = move |(x, y): (i32, i32)| (y, x, film);
+        round
+            .corners
+            .iter()
+            .copied()
+            .map(corner)
+            .collect::<Vec<_>>()
+    };
+    let mut times: BTreeMap<(i32, i32, i32), usize> = BTreeMap::new();
+    for corner in rounds.iter().flat_map(of_round) {
+        *times.entry(corner).or_insert(0) += 1;
     }
     let twice = times.into_iter().filter(|(_, times)| *times == 2);
-    twice.map(|((y, x), _)| (x, y)).collect()
+    let mut points: Vec<Point> = twice.map(|((y, x, _), _)| (x, y)).collect();
+    points.dedup();
+    points
 }
