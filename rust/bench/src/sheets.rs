@@ -1,12 +1,10 @@
-//! The sheets that are timed: five shapes in four sizes, always the same.
+//! The sheets that are timed: six shapes in four sizes, always the same.
 
-use witness::generate::{comb, pixels, saw, spiral, squares, Random, Sheet};
+use witness::generate::{comb, patchwork, pixels, saw, spiral, squares, Random, Sheet};
+use witness::geometry::{MOST_EDGES, NUMBERS_PER_EDGE};
 
 /// The numbers of edges that are aimed at.
 pub const SIZES: [usize; 4] = [512, 1_024, 2_048, 4_096];
-
-/// The edges of the most that a list may hold.
-const MOST: usize = 4 * 4_096;
 
 /// A shape and how it is made with about so many edges, by chance.
 pub struct Shape {
@@ -15,8 +13,10 @@ pub struct Shape {
     make: fn(&mut Random, usize) -> Sheet,
 }
 
-/// The five shapes. A grid of 4,096 edges has 1,024 squares, a comb 1,024 teeth.
-pub const SHAPES: [Shape; 5] = [
+/// The six shapes. A grid of 4,096 edges has 1,024 squares, a comb 1,024 teeth,
+/// and many films 1,024 pixels side by side, each in another film than its
+/// neighbours. The others are of one film.
+pub const SHAPES: [Shape; 6] = [
     Shape {
         name: "pixel art",
         make: pixel_art,
@@ -37,6 +37,10 @@ pub const SHAPES: [Shape; 5] = [
         name: "saw",
         make: |random, edges| saw(random, edges.trailing_zeros() - 1),
     },
+    Shape {
+        name: "many films",
+        make: |random, edges| patchwork(random, edges / 4 / side(edges / 4), side(edges / 4)),
+    },
 ];
 
 impl Shape {
@@ -46,7 +50,7 @@ impl Shape {
     pub fn sheets(&self, edges: usize) -> Vec<Sheet> {
         let sheet = |seed: usize| {
             let sheet = (self.make)(&mut Random::new(seed as u64), edges);
-            assert!(!sheet.is_empty() && sheet.len() <= MOST);
+            assert!(!sheet.is_empty() && sheet.len() <= NUMBERS_PER_EDGE * MOST_EDGES);
             sheet
         };
         (1..=SIZES[SIZES.len() - 1] / edges).map(sheet).collect()
@@ -70,7 +74,7 @@ fn pixel_art(random: &mut Random, edges: usize) -> Sheet {
         let height = width.min(edges / width + 1);
         pixels(&mut Random::new(seed), width, height, 50, false)
     };
-    let fits = |width: &usize| draw(*width).len() <= 4 * edges;
+    let fits = |width: &usize| draw(*width).len() <= NUMBERS_PER_EDGE * edges;
     let largest = (4..=63).take_while(fits).last();
     draw(largest.unwrap_or(4))
 }

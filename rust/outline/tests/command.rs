@@ -31,7 +31,7 @@ fn text(bytes: &[u8]) -> String {
     String::from_utf8_lossy(bytes).into_owned()
 }
 
-const TRIANGLE: &[u8] = b"0 0 4 2\n4 2 1 5\n1 5 0 0\n";
+const TRIANGLE: &[u8] = b"0 0 4 2 0\n4 2 1 5 0\n1 5 0 0 0\n";
 
 #[test]
 fn a_picture_from_standard_input() {
@@ -55,13 +55,13 @@ fn a_picture_from_a_file() {
 
 #[test]
 fn a_refused_sheet() {
-    let output = run(&[], b"0 0 4 2\n4 2 1 5\n");
+    let output = run(&[], b"0 0 4 2 0\n4 2 1 5 0\n");
     assert_eq!(output.status.code(), Some(1));
     assert_eq!(text(&output.stdout), "");
     let message = text(&output.stderr);
     let begin = "outline-svg: standard input: refused 9 0 (line 1): edge 0 (counted from 0) has ";
     assert!(message.starts_with(begin), "{}", message);
-    let output = run(&[], b"0 0 4 2\n4 2 1,5\n");
+    let output = run(&[], b"0 0 4 2 0\n4 2 1,5 0\n");
     assert_eq!(output.status.code(), Some(1));
     let message = text(&output.stderr);
     let begin = "outline-svg: standard input: refused 15 2: line 2 is malformed: ";

@@ -4,10 +4,7 @@
 use outline::text::{read_sheet, write_sheet};
 use outline::{number, picture, rows_enough, turns, Answer, Outlines, Refusal, TurnAnswer};
 
-const TRIANGLE: [i32; 12] = [0, 0, 4, 2, 4, 2, 1, 5, 1, 5, 0, 0];
-const TOUCHING: [i32; 28] = [
-    3, 2, 1, 6, 1, 6, 3, 0, 1, 6, 2, 7, 3, 0, 6, 8, 6, 8, 3, 2, 2, 7, 0, 9, 0, 9, 1, 6,
-];
+const TRIANGLE: [i32; 15] = [0, 0, 4, 2, 7, 4, 2, 1, 5, 7, 1, 5, 0, 0, 7];
 
 #[test]
 fn the_whole_list_in_all_the_numbers_out() -> Result<(), Refusal> {
@@ -49,15 +46,19 @@ fn a_turn_list() {
 }
 
 #[test]
-fn two_outlines_that_touch() -> Result<(), Refusal> {
-    let outlines = Outlines::of(&TOUCHING)?;
+fn neighbours_of_two_films() -> Result<(), Refusal> {
+    let neighbours = [
+        0, 0, 2, 0, 0, 2, 0, 4, 0, 1, 0, 2, 0, 0, 0, 2, 0, 2, 2, 0, //
+        2, 2, 0, 2, 0, 2, 2, 2, 0, 1, 4, 0, 4, 2, 1, 4, 2, 2, 2, 1,
+    ];
+    let outlines = Outlines::of(&neighbours)?;
     assert_eq!(outlines.count(), 2);
-    assert_eq!(outlines.polygons(), [2, 2, 1, 2, 2, 1, 1]);
-    assert_eq!(outlines.sequences(), [1, 2, 1, 3, 0, 2, 0]);
-    assert_eq!(outlines.places(1), [6, 2, 5]);
-    assert_eq!(outlines.places(2), [4, 0, 1, 3]);
-    assert_eq!((outlines.peak(), outlines.records()), (4, 11));
-    assert_eq!(outlines.turns(), [6, 2, 5, 4, 0, 1, 3]);
+    assert_eq!(outlines.polygons(), [2, 1, 2, 2, 2, 1, 1, 1]);
+    assert_eq!(outlines.sequences(), [2, 2, 1, 3, 0, 1, 3, 0]);
+    assert_eq!(outlines.places(1), [7, 5, 1, 6]);
+    assert_eq!(outlines.places(2), [4, 2, 0, 3]);
+    assert_eq!((outlines.peak(), outlines.records()), (2, 10));
+    assert_eq!(outlines.turns(), [7, 5, 1, 6, 4, 2, 0, 3]);
     assert!(outlines.places(0).is_empty() && outlines.places(3).is_empty());
     Ok(())
 }
@@ -72,25 +73,25 @@ fn no_outline() -> Result<(), Refusal> {
 
 #[test]
 fn a_refusal() {
-    let refusal = Outlines::of(&[5, 5, 5, 5]).unwrap_err();
+    let refusal = Outlines::of(&[5, 5, 5, 5, 0]).unwrap_err();
     assert_eq!(refusal, Refusal::EqualEnds { edge: 0 });
     assert_eq!((refusal.number(), refusal.place()), (6, 0));
 }
 
 #[test]
 fn how_many_rows() {
-    let two_peaks = [3, 2, 1, 6, 1, 6, 3, 0, 3, 0, 6, 8, 6, 8, 3, 2];
+    let two_peaks = [3, 2, 1, 6, 0, 1, 6, 3, 0, 0, 3, 0, 6, 8, 0, 6, 8, 3, 2, 0];
     assert_eq!(rows_enough(&two_peaks), 8);
     assert_eq!(rows_enough(&[]), 0);
 }
 
 #[test]
 fn sheets_as_text() {
-    let edges = vec![0, 0, 1, 1, 1, 1, 0, 0];
-    assert_eq!(read_sheet(b"0 0 1 1\n1 1 0 0\n"), Ok(edges));
+    let edges = vec![0, 0, 1, 1, 7, 1, 1, 0, 0, 7];
+    assert_eq!(read_sheet(b"0 0 1 1 7\n1 1 0 0 7\n"), Ok(edges));
     let malformed = Refusal::Malformed { line: 2 };
-    assert_eq!(read_sheet(b"0 0 1 1\n1 1 0\n"), Err(malformed));
-    assert_eq!(write_sheet(&[0, 0, -1, 1]), "0 0 -1 1\n");
+    assert_eq!(read_sheet(b"0 0 1 1 7\n1 1 0 0\n"), Err(malformed));
+    assert_eq!(write_sheet(&[0, 0, -1, 1, 7]), "0 0 -1 1 7\n");
 }
 
 #[test]

@@ -1,24 +1,35 @@
-//! The picture: everything is in the viewBox, every outline has its own colour,
-//! every touching point its ring, numbers are there or left out, and the text
-//! is well formed. And the command that draws it.
+//! The picture: everything is in the viewBox, every outline has the colour of its
+//! film, every touching point its ring, numbers are there or left out, and the
+//! text is well formed. And the command that draws it.
 
 use std::collections::BTreeSet;
 
 use outline::picture::{draw, MOST_NUMBERED};
+use outline::NUMBERS_PER_EDGE;
 
-const TOUCHING: [i32; 28] = [
-    3, 2, 1, 6, 1, 6, 3, 0, 1, 6, 2, 7, 3, 0, 6, 8, 6, 8, 3, 2, 2, 7, 0, 9, 0, 9, 1, 6,
-];
+/// Two outlines with the point (1, 6) in common, the upper one in this film.
+fn touching(upper: i32) -> Vec<i32> {
+    let edges = [
+        [3, 2, 1, 6, 0],
+        [1, 6, 3, 0, 0],
+        [1, 6, 2, 7, upper],
+        [3, 0, 6, 8, 0],
+        [6, 8, 3, 2, 0],
+        [2, 7, 0, 9, upper],
+        [0, 9, 1, 6, upper],
+    ];
+    edges.concat()
+}
 
-/// Squares of side 2 in a row, none touching.
+/// Squares of side 2 in a row, none touching, each in a film of its own.
 fn squares(count: i32) -> Vec<i32> {
-    let bottoms = (0..count).map(|at| [3 * at, 0, 3 * at + 2, 0]);
+    let bottoms = (0..count).map(|at| [3 * at, 0, 3 * at + 2, 0, at]);
     let others = (0..count).flat_map(|at| {
         let (left, right) = (3 * at, 3 * at + 2);
         [
-            [left, 2, left, 0],
-            [right, 0, right, 2],
-            [right, 2, left, 2],
+            [left, 2, left, 0, at],
+            [right, 0, right, 2, at],
+            [right, 2, left, 2, at],
         ]
     });
     bottoms.chain(others).flatten().collect()
@@ -82,10 +93,10 @@ fn colours(svg: &str) -> BTreeSet<&str> {
 
 #[test]
 fn the_touching_sheet() {
-    let svg = draw(&TOUCHING).unwrap();
+    let svg = draw(&touching(0)).unwrap();
     check_well_formed(&svg);
     check_fits(&svg);
-    assert_eq!((count(&svg, "outline"), colours(&svg).len()), (2, 2));
+    assert_eq!((count(&svg, "outline"), colours(&svg).len()), (2, 1));
     let legend = 1;
     assert_eq!(count(&svg, "touching"), 1 + legend);
     assert_eq!(count(&svg, "top"), 2 + legend);
@@ -93,19 +104,44 @@ fn the_touching_sheet() {
     for number in ["0", "1", "2", "3"] {
         assert!(sequences.contains(&format!(">{}</text>", number)));
     }
-    assert!(svg.contains("<title>Outlines: 2, edges: 7, touching points: 1, peak: 4, records: 11"));
+    let title = "Outlines: 2, edges: 7, films: 1, touching points: 1, peak: 4, records: 11";
+    assert!(svg.contains(&format!("<title>{}</title>", title)));
+}
+
+/// Outlines of two films have two colours, and where they have a point in
+/// common they do not touch.
+#[test]
+fn the_same_sheet_in_two_films() {
+    let svg = draw(&touching(1)).unwrap();
+    check_well_formed(&svg);
+    check_fits(&svg);
+    assert_eq!((count(&svg, "outline"), colours(&svg).len()), (2, 2));
+    assert_eq!(count(&svg, "touching"), 0);
+    assert!(svg.contains(" films: 2, touching points: 0, "));
+}
+
+/// Outlines of several films with one top: every number can be read.
+#[test]
+fn equal_tops_lie_beside_one_another() {
+    let edges = (0..10).flat_map(|film| [[0, 0, 9, 9, film], [9, 9, 0, 0, film]]);
+    let svg = draw(&edges.flatten().collect::<Vec<i32>>()).unwrap();
+    check_fits(&svg);
+    let discs = svg.lines().filter(|line| line.contains("class=\"top\""));
+    let places: BTreeSet<&str> = discs.map(|line| values(line, "cx")[0]).collect();
+    let legend = 1;
+    assert_eq!(places.len(), 10 + legend);
 }
 
 #[test]
 fn the_same_bytes_again() {
-    assert_eq!(draw(&TOUCHING), draw(&TOUCHING));
+    assert_eq!(draw(&touching(1)), draw(&touching(1)));
 }
 
 #[test]
 fn numbers_are_left_out_of_large_sheets() {
     for (outlines, numbered) in [(100, true), (101, false)] {
         let sheet = squares(outlines);
-        assert_eq!(sheet.len() / 4 <= MOST_NUMBERED, numbered);
+        assert_eq!(sheet.len() / NUMBERS_PER_EDGE <= MOST_NUMBERED, numbered);
         let svg = draw(&sheet).unwrap();
         check_well_formed(&svg);
         check_fits(&svg);
@@ -120,10 +156,10 @@ fn sheets_of_every_extent() {
     let most = 1_000_000;
     let sheets: [&[i32]; 5] = [
         &[],
-        &[0, 0, 1, 1, 1, 1, 0, 0],
-        &[-5, 7, most, 7, most, 7, -5, 7],
-        &[3, -most, 3, most, 3, most, 3, -most],
-        &[-most, -most, most, most, most, most, -most, -most],
+        &[0, 0, 1, 1, 0, 1, 1, 0, 0, 0],
+        &[-5, 7, most, 7, 0, most, 7, -5, 7, 0],
+        &[3, -most, 3, most, 0, 3, most, 3, -most, 0],
+        &[-most, -most, most, most, 0, most, most, -most, -most, 0],
     ];
     for sheet in sheets {
         let svg = draw(sheet).unwrap();
@@ -135,5 +171,5 @@ fn sheets_of_every_extent() {
 
 #[test]
 fn a_refused_sheet_has_no_picture() {
-    assert_eq!(draw(&[5, 5, 5, 5]).unwrap_err().number(), 6);
+    assert_eq!(draw(&[5, 5, 5, 5, 0]).unwrap_err().number(), 6);
 }

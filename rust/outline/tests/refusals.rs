@@ -5,7 +5,7 @@ use std::collections::BTreeSet;
 
 use outline::{number, turns, Answer, Outlines, Refusal, TurnAnswer};
 
-const TRIANGLE: [i32; 12] = [0, 0, 4, 2, 4, 2, 1, 5, 1, 5, 0, 0];
+const TRIANGLE: [i32; 15] = [0, 0, 4, 2, 7, 4, 2, 1, 5, 7, 1, 5, 0, 0, 7];
 
 /// The refusals that speak of no edge.
 const OF_NO_EDGE: [Refusal; 5] = [
@@ -17,7 +17,7 @@ const OF_NO_EDGE: [Refusal; 5] = [
 ];
 
 /// The refusals that speak of an edge.
-fn of_an_edge(edge: u32) -> [Refusal; 9] {
+fn of_an_edge(edge: u32) -> [Refusal; 10] {
     [
         Refusal::PastRange { edge },
         Refusal::EqualEnds { edge },
@@ -28,6 +28,7 @@ fn of_an_edge(edge: u32) -> [Refusal; 9] {
         Refusal::NoPolygon { edge },
         Refusal::PairRepeated { edge },
         Refusal::Gap { edge },
+        Refusal::FilmPastRange { edge },
     ]
 }
 
@@ -36,7 +37,7 @@ fn numbers_and_places() {
     let numbers = OF_NO_EDGE.map(|refusal| (refusal.number(), refusal.place(), refusal.edge()));
     assert_eq!(numbers, [1, 2, 3, 4, 11].map(|number| (number, 0, None)));
     let numbers = of_an_edge(9).map(|refusal| (refusal.number(), refusal.place(), refusal.edge()));
-    let expected = [5, 6, 7, 8, 9, 10, 12, 13, 14];
+    let expected = [5, 6, 7, 8, 9, 10, 12, 13, 14, 16];
     assert_eq!(numbers, expected.map(|number| (number, 9, Some(9))));
     let malformed = Refusal::Malformed { line: 4 };
     assert_eq!((malformed.number(), malformed.place()), (15, 4));
@@ -69,12 +70,12 @@ fn every_refusal_has_a_sentence_of_its_own() {
         place: 5,
     };
     assert!(say(unknown).starts_with("refusal 77 5: "));
-    assert_eq!(sentences.len(), 16);
+    assert_eq!(sentences.len(), 17);
 }
 
 #[test]
 fn one_sentence_in_full() {
-    let refusal = Outlines::of(&[0, 1, 1, 1, 0, 0, 1, 0]).unwrap_err();
+    let refusal = Outlines::of(&[0, 1, 1, 1, 7, 0, 0, 1, 0, 7]).unwrap_err();
     assert_eq!(
         refusal.to_string(),
         "edge 1 (counted from 0) has its higher end below the higher end of the edge before it: \
@@ -103,13 +104,17 @@ fn answer(edges: &[i32], lists: usize, journal: usize, rows: usize) -> Answer {
 fn each_refusal_of_the_engine_comes_as_its_case() {
     let triangle = |journal, rows| answer(&TRIANGLE, 3, journal, rows);
     let cases = [
-        (answer(&[0; 5], 1, 8, 8), Refusal::NotWhole),
-        (answer(&[0; 4 * 4097], 1, 8, 8), Refusal::TooMany),
+        (answer(&[0; 6], 1, 8, 8), Refusal::NotWhole),
+        (answer(&[0; 5 * 4097], 1, 8, 8), Refusal::TooMany),
         (answer(&TRIANGLE, 2, 24, 8), Refusal::ListsDiffer),
         (triangle(23, 8), Refusal::JournalShort),
         (
-            answer(&[0, 0, 1_000_001, 0], 1, 8, 8),
+            answer(&[0, 0, 1_000_001, 0, 256], 1, 8, 8),
             Refusal::PastRange { edge: 0 },
+        ),
+        (
+            answer(&[0, 0, 0, 0, 256], 1, 8, 8),
+            Refusal::FilmPastRange { edge: 0 },
         ),
         (triangle(24, 7), Refusal::NoRow { edge: 0 }),
     ];

@@ -9,6 +9,7 @@ use std::process::Command;
 
 use tests::process::start;
 use witness::call::{Call, TurnCall};
+use witness::checks::IN_ORDER;
 use witness::generate::{any, damaged, Random, Seed};
 use witness::{Answer, Refusal, TurnAnswer};
 
@@ -131,15 +132,13 @@ fn every_field_of_a_numbering() {
     for seed in 0..300 {
         let seed = Seed(seed);
         let random = &mut seed.random();
-        for refusal in (0..=10).filter(|refusal| *refusal != 2) {
-            let call = match refusal {
-                0 => {
-                    let sheet = any(random);
-                    let rows = outline::rows_enough(&sheet);
-                    Call::fitting(sheet, rows)
-                }
-                refusal => damaged(random, refusal),
-            };
+        let edges = any(random);
+        let rows = outline::rows_enough(&edges);
+        let mut calls = vec![Call::fitting(edges, rows)];
+        // Lists that are too long are slow to make.
+        let refusals = IN_ORDER.into_iter().filter(|refusal| *refusal != 2);
+        calls.extend(refusals.map(|refusal| damaged(random, refusal)));
+        for call in calls {
             let answer = call.outcome(witness::number).answer;
             assert_eq!(sheet(&call), fields(answer), "{:?}", call);
         }
@@ -171,21 +170,26 @@ const C_PROGRAM: &str = r#"
 
 int main(void)
 {
-    static const int32_t triangle[] = {0, 0, 4, 2, 4, 2, 1, 5, 1, 5, 0, 0};
+    static const int32_t triangle[] = {0, 0, 4, 2, 7, 4, 2, 1, 5, 7, 1, 5, 0, 0, 7};
+    static const int32_t no_film[] = {0, 0, 4, 2, OUTLINE_MOST_FILM + 1};
     uint32_t polygons[3], sequences[3], turns[3];
     int32_t journal[3 * OUTLINE_JOURNAL_NUMBERS_PER_EDGE];
     int32_t rows[OUTLINE_NUMBERS_PER_ROW];
-    outline_sheet sheet = outline_number(triangle, 12, polygons, 3, sequences, 3,
+    outline_sheet sheet = outline_number(triangle, 3 * OUTLINE_NUMBERS_PER_EDGE,
+                                         polygons, 3, sequences, 3,
                                          journal, 24, rows, 8);
     outline_turned turned = outline_turns(polygons, 3, sequences, 3, turns, 3);
-    outline_sheet refused = outline_number(triangle, 8, polygons, 2, sequences, 2,
-                                           journal, 24, rows, 8);
+    outline_sheet open = outline_number(triangle, 10, polygons, 2, sequences, 2,
+                                        journal, 24, rows, 8);
+    outline_sheet film = outline_number(no_film, 5, polygons, 1, sequences, 1,
+                                        journal, 24, rows, 8);
     printf("%u %u %u %u %u\n", (unsigned)sheet.refusal, (unsigned)sheet.place,
            (unsigned)sheet.polygons, (unsigned)sheet.peak, (unsigned)sheet.records);
     printf("%u %u %u\n", (unsigned)turned.refusal, (unsigned)turned.place,
            (unsigned)turned.polygons);
     printf("%u %u %u\n", (unsigned)turns[0], (unsigned)turns[1], (unsigned)turns[2]);
-    printf("%d\n", refused.refusal == OUTLINE_UNEVEN);
+    printf("%d %d\n", open.refusal == OUTLINE_UNEVEN,
+           film.refusal == OUTLINE_FILM_PAST_RANGE);
     return 0;
 }
 "#;
@@ -227,7 +231,7 @@ fn printed_by(name: &str, program: &str) -> String {
 #[test]
 fn a_c_program_with_the_header() {
     let printed = printed_by("header", C_PROGRAM);
-    assert_eq!(printed, "0 0 1 1 4\n0 0 1\n2 0 1\n1\n");
+    assert_eq!(printed, "0 0 1 1 4\n0 0 1\n2 0 1\n1 1\n");
 }
 
 #[test]

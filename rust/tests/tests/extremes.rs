@@ -1,12 +1,12 @@
 //! Lists at the ends of what may be: no edge, one, the most and one more; parts
-//! of an edge; the coordinates' limits and the ends of their type; the largest
-//! sheets of every shape with the rows at their peak.
+//! of an edge; the limits of coordinates and films and the ends of their type;
+//! the largest sheets of every shape with the rows at their peak.
 
 use tests::held::{number, refusal};
 use witness::call::Call;
-use witness::generate::{comb, in_sweep_order, pixels, saw, soup, spiral, squares, walks};
-use witness::generate::{Random, Sheet};
-use witness::geometry::{read_edges, Edge, Point};
+use witness::generate::{comb, in_sweep_order, layered, mosaic, patchwork, pixels, saw, soup};
+use witness::generate::{spiral, squares, walks, Random, Sheet};
+use witness::geometry::{read_edges, Edge, Point, NUMBERS_PER_EDGE};
 use witness::steps::sweep_up;
 use witness::{Answer, Refusal};
 
@@ -16,7 +16,10 @@ fn refused(number: u32, place: u32) -> Answer {
 
 /// Pairs of edges there and back, one pair above the other.
 fn there_and_back(pairs: i32) -> Vec<i32> {
-    let pair = |at: i32| [0, 2 * at, 1, 2 * at + 1, 1, 2 * at + 1, 0, 2 * at];
+    let pair = |at: i32| {
+        let (low, high) = (2 * at, 2 * at + 1);
+        [0, low, 1, high, 0, 1, high, 0, low, 0]
+    };
     (0..pairs).flat_map(pair).collect()
 }
 
@@ -39,11 +42,11 @@ fn no_edge() {
 #[test]
 fn one_edge() {
     let random = &mut Random::new(1);
-    for edge in [[0, 0, 1, 1], [1, 1, 0, 0], [0, 0, 1, 0], [1, 0, 0, 0]] {
-        let call = Call::fitting(edge.to_vec(), 1);
+    for ends in [[0, 0, 1, 1], [1, 1, 0, 0], [0, 0, 1, 0], [1, 0, 0, 0]] {
+        let call = Call::fitting([&ends[..], &[255]].concat(), 1);
         assert_eq!(number(random, &call), refused(9, 0));
     }
-    let call = Call::fitting(vec![5, 5, 5, 5], 0);
+    let call = Call::fitting(vec![5, 5, 5, 5, 0], 0);
     assert_eq!(number(random, &call), refused(6, 0));
 }
 
@@ -51,8 +54,8 @@ fn one_edge() {
 fn parts_of_an_edge() {
     let random = &mut Random::new(2);
     for whole in [0, 1, 2, 100, 2_048, 4_096, 4_097, 5_000] {
-        for part in 1..=3 {
-            let edges = vec![0; 4 * whole + part];
+        for part in 1..NUMBERS_PER_EDGE {
+            let edges = vec![0; NUMBERS_PER_EDGE * whole + part];
             let call = Call::fitting(edges, 1);
             assert_eq!(number(random, &call), refused(1, 0));
         }
@@ -74,7 +77,7 @@ fn the_most_edges_and_one_more() {
         refused(10, 0)
     );
     let mut one_more = most.clone();
-    one_more.extend([0, 9_999, 1, 9_999]);
+    one_more.extend([0, 9_999, 1, 9_999, 0]);
     let mut call = Call::fitting(one_more, 1);
     assert_eq!(number(random, &call), refused(2, 0));
     call.polygons = 0;
@@ -91,7 +94,7 @@ fn the_most_edges_and_one_more() {
 #[test]
 fn faults_at_the_last_of_the_most_edges() {
     let random = &mut Random::new(4);
-    let last = 4 * 4_095;
+    let last = NUMBERS_PER_EDGE * 4_095;
     let mut equal_ends = there_and_back(2_048);
     equal_ends[last + 2] = equal_ends[last];
     equal_ends[last + 3] = equal_ends[last + 1];
@@ -107,32 +110,43 @@ fn faults_at_the_last_of_the_most_edges() {
         refused(7, 4_095)
     );
     let mut twice = there_and_back(2_048);
-    twice.copy_within(last - 4..last, last);
+    twice.copy_within(last - NUMBERS_PER_EDGE..last, last);
     assert_eq!(number(random, &Call::fitting(twice, 1)), refused(8, 4_095));
     let mut open = there_and_back(2_048);
     open[last + 2] -= 1;
     assert_eq!(number(random, &Call::fitting(open, 1)), refused(9, 4_094));
+    for (film, refusal) in [(256, refused(16, 4_095)), (255, refused(9, 4_094))] {
+        let mut other_film = there_and_back(2_048);
+        other_film[last + 4] = film;
+        assert_eq!(number(random, &Call::fitting(other_film, 1)), refusal);
+    }
 }
 
 #[test]
-fn the_limits_of_coordinates() {
+fn the_limits_of_coordinates_and_films() {
     let random = &mut Random::new(5);
     let most = Point::LIMIT;
-    let corners = [-most, -most, most, most, most, most, -most, -most];
+    let corners = [-most, -most, most, most, 255, most, most, -most, -most, 255];
     assert_eq!(
         refusal(number(random, &Call::fitting(corners.to_vec(), 1))),
         0
     );
     let past = [most + 1, -most - 1, i32::MAX, i32::MIN, i32::MIN + 1];
-    for at in 0..8 {
+    let past_films = [256, -1, i32::MAX, i32::MIN, i32::MIN + 1];
+    for at in 0..corners.len() {
+        let (refusal, past) = match at % NUMBERS_PER_EDGE {
+            4 => (16, past_films),
+            _ => (5, past),
+        };
         for number_past in past {
             let mut edges = corners.to_vec();
             edges[at] = number_past;
+            let place = (at / NUMBERS_PER_EDGE) as u32;
             let call = Call::fitting(edges, 1);
-            assert_eq!(number(random, &call), refused(5, at as u32 / 4));
+            assert_eq!(number(random, &call), refused(refusal, place));
         }
     }
-    let ends = [i32::MIN, i32::MIN, i32::MAX, i32::MAX];
+    let ends = [i32::MIN, i32::MIN, i32::MAX, i32::MAX, i32::MIN];
     assert_eq!(
         number(random, &Call::fitting(ends.to_vec(), 1)),
         refused(5, 0)
@@ -147,7 +161,7 @@ fn outlines_along_the_limits() {
     let square = |x: i32, y: i32, side: i32| {
         let corners = [(x, y), (x + side, y), (x + side, y + side), (x, y + side)];
         let point = |at: usize| Point::new(corners[at % 4].0, corners[at % 4].1);
-        [0, 1, 2, 3].map(|at| Edge::new(point(at), point(at + 1)))
+        [0, 1, 2, 3].map(|at| Edge::new(point(at), point(at + 1), 0))
     };
     let mut edges = square(-most, -most, 2 * most).to_vec();
     for x in [-most + 1, most - 2] {
@@ -174,17 +188,24 @@ fn hold_large(random: &mut Random, sheet: Sheet) {
 #[test]
 fn the_largest_sheets_of_every_shape() {
     let random = &mut Random::new(7);
+    let all_films: Vec<i32> = (0..=Edge::MOST_FILM).collect();
+    let few = soup(random, 4, 4, 30, &[0]);
     let large = [
         saw(random, 11),
         comb(random, 1_024),
         spiral(random, 2_048),
         squares(random, 32, 32),
         pixels(random, 52, 52, 50, false),
-        soup(random, 1, 4_096, 1_000_000),
-        walks(random, 26, 2_000),
+        soup(random, 1, 4_096, 1_000_000, &[0]),
+        walks(random, 26, 2_000, &[0]),
+        walks(random, 8, 2_000, &all_films),
+        mosaic(random, 31, 31, &all_films, false),
+        patchwork(random, 32, 32),
+        layered(random, &few, &all_films),
     ];
     for sheet in large {
-        assert!(sheet.len() / 4 > 800, "{} edges", sheet.len() / 4);
+        let edges = sheet.len() / NUMBERS_PER_EDGE;
+        assert!(edges > 800, "{} edges", edges);
         hold_large(random, sheet);
     }
 }

@@ -1,5 +1,5 @@
 //! The program `outline`, started as a person would: its output must be what
-//! the vector file and the witness say, byte for byte, for every text.
+//! the vector files and the witness say, byte for byte, for every text.
 //!
 //! The program is the one that `OUTLINE_PROGRAM` names, or the one that
 //! `rt check` has left in target/bin.
@@ -9,11 +9,9 @@ use std::thread::sleep;
 use std::time::Duration;
 
 use tests::process::{program, start};
-use witness::generate::{any, pixels, saws, Random, Seed};
+use witness::generate::{any, mosaic, pixels, saws, Random, Seed};
 use witness::text::{MOST_BYTES, MOST_LINES};
-use witness::vectors::{read_cases, Work};
-
-const BASE: &str = include_str!("../../vectors/base.txt");
+use witness::vectors::{all_cases, Work};
 
 /// What the program prints for an input that comes in these pieces, with a
 /// pause after each. It must end well and read no more than it wants.
@@ -61,21 +59,21 @@ fn text(sheet: &[i32]) -> Vec<u8> {
 }
 
 #[test]
-fn the_cases_of_the_base() {
+fn the_cases_of_the_vectors() {
     let mut cases = 0;
-    for case in read_cases(BASE).unwrap() {
+    for case in all_cases().unwrap() {
         if let Work::Program(input, expected) = case.work {
             let expected = String::from_utf8_lossy(&expected).into_owned();
             assert_eq!(printed(&[&input]), expected, "case {}", case.id);
             cases += 1;
         }
     }
-    assert_eq!(cases, 25);
+    assert_eq!(cases, 78);
 }
 
 #[test]
 fn the_triangle() {
-    let printed = check(b"0 0 4 2\n4 2 1 5\n1 5 0 0\n");
+    let printed = check(b"0 0 4 2 0\n4 2 1 5 0\n1 5 0 0 0\n");
     assert_eq!(printed, "accepted 1 1 4\n2 1 0\n1 1 2\n0 1 1\n");
 }
 
@@ -86,16 +84,16 @@ fn no_input() {
 
 #[test]
 fn no_last_newline() {
-    assert_eq!(check(b"0 0 1 1"), "refused 15 1\n");
-    assert_eq!(check(b"0 0 1 1\n1 1 0 0"), "refused 15 2\n");
-    assert_eq!(check(b"0 0 1 1\n1 1 0 0\n0"), "refused 15 3\n");
+    assert_eq!(check(b"0 0 1 1 0"), "refused 15 1\n");
+    assert_eq!(check(b"0 0 1 1 0\n1 1 0 0 0"), "refused 15 2\n");
+    assert_eq!(check(b"0 0 1 1 0\n1 1 0 0 0\n0"), "refused 15 3\n");
 }
 
 /// Pairs of edges there and back, as lines.
 fn lines(count: usize) -> Vec<u8> {
     let line = |at: usize| match at % 2 {
-        0 => format!("0 {} 1 {}\n", at, at + 1),
-        _ => format!("1 {} 0 {}\n", at, at - 1),
+        0 => format!("0 {} 1 {} 255\n", at, at + 1),
+        _ => format!("1 {} 0 {} 255\n", at, at - 1),
     };
     (0..count).map(line).collect::<String>().into_bytes()
 }
@@ -116,7 +114,10 @@ fn the_most_lines_and_one_more() {
 /// Lines of 40 bytes, the longest that may be sound, fill the most bytes.
 #[test]
 fn the_most_bytes_and_one_more() {
-    let far = "-9999999 -9999999 -9999999 -9999999\n";
+    let sound = "-1000000 -1000000 -1000000 -1000000 255\n".repeat(MOST_LINES);
+    assert_eq!(sound.len(), MOST_BYTES);
+    assert_eq!(check(sound.as_bytes()), "refused 6 0\n");
+    let far = "-9999999 -9999999 -9999999 -9999999 0\n";
     let spaces = " ".repeat(40 - far.len());
     let longest = far.repeat(MOST_LINES);
     assert!(longest.len() < MOST_BYTES);
@@ -138,15 +139,15 @@ fn the_most_bytes_and_one_more() {
 fn bytes_that_are_no_ascii() {
     for byte in 128..=255_u8 {
         if byte % 7 == 0 || byte == 255 {
-            let input = [b"0 0 1 1\n1 1 0 ", &[byte][..], b"\n"].concat();
+            let input = [b"0 0 1 1 0\n1 1 0 0 ", &[byte][..], b"\n"].concat();
             assert_eq!(check(&input), "refused 15 2\n");
         }
     }
-    check("0 0 1 1\n1 1 0 ０\n".as_bytes());
-    check(b"\xff\xfe0 0 1 1\n");
-    check(b"0 0 1 1\n\0");
+    check("0 0 1 1 0\n1 1 0 ０ 0\n".as_bytes());
+    check(b"\xff\xfe0 0 1 1 0\n");
+    check(b"0 0 1 1 0\n\0");
     check(b"\0\0\0\0");
-    check(b"0 0 1\x001\n1 1 0 0\n");
+    check(b"0 0 1\x001 0\n1 1 0 0 0\n");
 }
 
 #[test]
@@ -172,26 +173,29 @@ fn numbers_and_lines_almost_right() {
         "-9999999",
         "1000001",
         "-1000000",
+        "255",
+        "256",
+        "-1",
     ];
     for word in words {
-        for at in 0..4 {
-            let mut numbers = ["5", "6", "7", "8"];
+        for at in 0..5 {
+            let mut numbers = ["5", "6", "7", "8", "9"];
             numbers[at] = word;
             check(format!("{}\n", numbers.join(" ")).as_bytes());
         }
     }
     let lines = [
-        "0 0 1 1 \n",
-        " 0 0 1 1\n",
-        "0  0 1 1\n",
-        "0\t0 1 1\n",
-        "0 0 1 1\r\n",
-        "0 0 1\n",
-        "0 0 1 1 1\n",
+        "0 0 1 1 0 \n",
+        " 0 0 1 1 0\n",
+        "0  0 1 1 0\n",
+        "0\t0 1 1 0\n",
+        "0 0 1 1 0\r\n",
+        "0 0 1 1\n",
+        "0 0 1 1 1 1\n",
         "\n",
         " \n",
-        "0 0 1 1\n\n1 1 0 0\n",
-        "0 0 1 1\n1 1 0 0\n\n",
+        "0 0 1 1 0\n\n1 1 0 0 0\n",
+        "0 0 1 1 0\n1 1 0 0 0\n\n",
     ];
     for line in lines {
         assert!(check(line.as_bytes()).starts_with("refused 15 "));
@@ -200,7 +204,7 @@ fn numbers_and_lines_almost_right() {
 
 #[test]
 fn input_in_pieces() {
-    let triangle = b"0 0 4 2\n4 2 1 5\n1 5 0 0\n";
+    let triangle = b"0 0 4 2 0\n4 2 1 5 0\n1 5 0 0 0\n";
     let bytes: Vec<&[u8]> = triangle.chunks(1).collect();
     assert_eq!(printed(&bytes), wanted(triangle));
     let most = lines(MOST_LINES);
@@ -232,5 +236,6 @@ fn random_sheets() {
         let random = &mut seed.random();
         check(&text(&any(random)));
         check(&text(&pixels(random, 12, 9, 50, true)));
+        check(&text(&mosaic(random, 8, 8, &[0, 1, 255], true)));
     }
 }

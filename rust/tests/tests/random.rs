@@ -7,6 +7,7 @@ use std::collections::BTreeMap;
 
 use tests::held::{number, refusal};
 use witness::call::Call;
+use witness::checks::IN_ORDER;
 use witness::generate::{any, damaged, Random, Seed};
 use witness::geometry::read_edges;
 use witness::steps::{sweep_up, NUMBERS_PER_ROW};
@@ -82,7 +83,7 @@ fn hold_lengths(random: &mut Random, call: &Call, met: &mut Met) {
 /// A sheet damaged so that one refusal must come; lists that are too long are
 /// slow to make, and few do.
 fn hold_damaged(random: &mut Random, met: &mut Met) {
-    let wanted = match 1 + random.below(10) as u32 {
+    let wanted = match IN_ORDER[random.below(IN_ORDER.len())] {
         2 if !random.one_in(20) => 9,
         wanted => wanted,
     };
@@ -95,9 +96,13 @@ fn hold_numbers(random: &mut Random, met: &mut Met) {
     let extremes = [i32::MIN, i32::MAX, -1_000_001, -1_000_000, 1_000_000];
     let length = match random.below(8) {
         0 => random.below(30),
-        _ => 4 * random.below(7),
+        _ => 5 * random.below(7),
     };
-    let mut edges: Vec<i32> = (0..length).map(|_| random.between(-1, 1)).collect();
+    let number = |random: &mut Random, at: usize| match at % 5 {
+        4 => [0, 0, 0, 1, random.between(-1, 1)][random.below(5)],
+        _ => random.between(-1, 1),
+    };
+    let mut edges: Vec<i32> = (0..length).map(|at| number(random, at)).collect();
     if length > 0 && random.one_in(6) {
         edges[random.below(length)] = extremes[random.below(5)];
     }
@@ -131,7 +136,7 @@ fn check_met(met: &Met) {
     let calls: usize = met.values().sum();
     println!("{} calls: {:?}", calls, met);
     assert!(calls >= 50_000, "{} calls", calls);
-    for refusal in 0..=10 {
+    for refusal in [0].into_iter().chain(IN_ORDER) {
         let least = if refusal == 2 { 20 } else { 500 };
         let times = met.get(&refusal).copied().unwrap_or(0);
         assert!(times >= least, "{} times {}", times, refusal);

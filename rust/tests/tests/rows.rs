@@ -113,7 +113,7 @@ fn the_longest_outline_is_not_the_list() {
 /// ends there, and C would be 3.
 #[test]
 fn an_edge_does_not_pass_its_lower_end() {
-    let lozenge = [1, 0, 2, 1, 0, 1, 1, 0, 1, 2, 0, 1, 2, 1, 1, 2];
+    let lozenge = [1, 0, 2, 1, 0, 0, 1, 1, 0, 0, 1, 2, 0, 1, 0, 2, 1, 1, 2, 0];
     let edges = read_edges(&lozenge);
     let closed = |point| {
         edges
@@ -129,8 +129,8 @@ fn an_edge_does_not_pass_its_lower_end() {
 /// Lists that are refused anyway get some number, and no panic.
 #[test]
 fn any_list_has_an_answer() {
-    assert_eq!(outline::rows_enough(&[1, 2, 3]), 0);
-    assert_eq!(outline::rows_enough(&vec![0; 4 * 4_097]), 0);
+    assert_eq!(outline::rows_enough(&[1, 2, 3, 4]), 0);
+    assert_eq!(outline::rows_enough(&vec![0; 5 * 4_097]), 0);
     for seed in 0..2_000 {
         let seed = Seed(seed);
         let random = &mut seed.random();

@@ -5,8 +5,9 @@ use std::fs;
 use std::path::{Path, PathBuf};
 
 use outline::{picture, text, Outlines};
-use witness::declared::touching_points;
-use witness::geometry::{read_edges, twice_area};
+use witness::declared::touching_sites;
+use witness::geometry::{read_edges, twice_area, Edge};
+use witness::worked::TRIANGLE;
 
 fn sample(name: &str) -> PathBuf {
     let samples = Path::new(env!("CARGO_MANIFEST_DIR")).join("../../samples");
@@ -30,14 +31,14 @@ fn sheet(name: &str) -> Vec<i32> {
 
 #[test]
 fn the_triangle() {
-    assert_eq!(sheet("triangle.txt"), [0, 0, 4, 2, 4, 2, 1, 5, 1, 5, 0, 0]);
+    assert_eq!(sheet("triangle.txt"), TRIANGLE);
 }
 
 #[test]
 fn the_touching_sheet_and_its_picture() {
     let touching = sheet("touching.txt");
     assert_eq!(Outlines::of(&touching).unwrap().count(), 2);
-    assert_eq!(touching_points(&read_edges(&touching)).len(), 1);
+    assert_eq!(touching_sites(&read_edges(&touching)).len(), 1);
     let drawn = picture::draw(&touching).unwrap();
     assert!(
         drawn.as_bytes() == bytes("touching.svg"),
@@ -45,15 +46,22 @@ fn the_touching_sheet_and_its_picture() {
     );
 }
 
+/// A face in film 0 and a scarf in film 1, which share the three sides of the
+/// neck.
 #[test]
 fn the_portrait() {
     let portrait = sheet("portrait.txt");
     let edges = read_edges(&portrait);
-    assert!(edges.len() <= 512);
     let outlines = Outlines::of(&portrait).unwrap();
     assert_eq!(outlines.count(), 11);
-    assert_eq!(touching_points(&edges).len(), 5);
+    assert_eq!(touching_sites(&edges).len(), 5);
     let bitmap = bytes("portrait.pixels");
-    let film = bitmap.iter().filter(|byte| **byte == b'#').count();
-    assert_eq!(twice_area(&edges), 2 * film as i64);
+    for (film, mark) in [(0, b'0'), (1, b'1')] {
+        let pixels = bitmap.iter().filter(|byte| **byte == mark).count();
+        let of_film = |edge: &&Edge| edge.film == film;
+        let of_film: Vec<Edge> = edges.iter().filter(of_film).copied().collect();
+        assert_eq!(twice_area(&of_film), 2 * pixels as i64);
+    }
+    let shared = |edge: &&Edge| edge.film == 0 && edges.contains(&edge.reversed().in_film(1));
+    assert_eq!(edges.iter().filter(shared).count(), 3);
 }

@@ -10,10 +10,10 @@ use std::path::{Path, PathBuf};
 use std::process::{Command, Stdio};
 
 use tests::process::program;
-use witness::generate::{any, damaged, pixels, saws, Random, Seed};
+use witness::generate::{any, damaged, mosaic, saws, Random, Seed};
 use witness::text::{MOST_BYTES, MOST_LINES, PROGRAM_ROWS};
 
-const TRIANGLE: &str = "0 0 4 2\n4 2 1 5\n1 5 0 0\n";
+const TRIANGLE: &str = "0 0 4 2 0\n4 2 1 5 0\n1 5 0 0 0\n";
 const NUMBERED: &str = "accepted 1 1 4\n2 1 0\n1 1 2\n0 1 1\n";
 
 /// Makes a house in the folder that it is started in. Executables are written
@@ -223,55 +223,71 @@ fn refusals_of_an_edge() {
     let house = House::built("of-an-edge", "");
     explained(
         &house,
-        "0 0 4 2\n4 2 1000001 -1000001\n",
-        "5 (PastRange), line 2 (edge 1, counted from 0): 4 2 1000001 -1000001",
+        "0 0 4 2 0\n4 2 1000001 -1000001 0\n",
+        "5 (PastRange), line 2 (edge 1, counted from 0): 4 2 1000001 -1000001 0",
         "its head x is 1000001 and its head y is -1000001, and coordinates go from -1,000,000 to 1,000,000",
         "move the drawing or shrink it",
     );
     explained(
         &house,
-        "5 -5 5 -5\n",
-        "6 (EqualEnds), line 1 (edge 0, counted from 0): 5 -5 5 -5",
+        "5 -5 5 -5 0\n",
+        "6 (EqualEnds), line 1 (edge 0, counted from 0): 5 -5 5 -5 0",
         "it begins and ends at (5, -5)",
         "leave the line out",
     );
     explained(
         &house,
-        "4 2 1 5\n0 0 4 2\n1 5 0 0\n",
-        "7 (TopFalls), line 2 (edge 1, counted from 0): 0 0 4 2",
+        "4 2 1 5 0\n0 0 4 2 0\n1 5 0 0 0\n",
+        "7 (TopFalls), line 2 (edge 1, counted from 0): 0 0 4 2 0",
         "its higher end (4, 2) is below (1, 5), the higher end of the line before it",
         "sort the lines by their higher ends: by the y of the higher end, and at equal y by its x",
     );
     let twice = "leave the line out if it is there twice; otherwise move the point apart into two (of two points at one height the right one is the higher)";
     explained(
         &house,
-        &format!("0 0 4 2\n{TRIANGLE}"),
-        "8 (Repeated), line 2 (edge 1, counted from 0): 0 0 4 2",
+        &format!("0 0 4 2 0\n{TRIANGLE}"),
+        "8 (Repeated), line 2 (edge 1, counted from 0): 0 0 4 2 0",
         "it arrives at (4, 2) from below, and so does line 1",
         twice,
     );
     explained(
         &house,
-        "0 0 1 1\n5 1 1 1\n0 0 5 5\n",
-        "8 (Repeated), line 3 (edge 2, counted from 0): 0 0 5 5",
+        "0 0 1 1 0\n5 1 1 1 0\n0 0 5 5 0\n",
+        "8 (Repeated), line 3 (edge 2, counted from 0): 0 0 5 5 0",
         "it leaves (0, 0) upwards, and so does line 1",
         twice,
     );
     let open = "add the edge that is missing there, or turn round the one that runs the wrong way";
     explained(
         &house,
-        "0 0 4 2\n4 2 1 5\n",
-        "9 (Uneven), line 1 (edge 0, counted from 0): 0 0 4 2",
-        "at (0, 0) 0 edges arrive and 1 leaves, so that an outline is open there",
+        "0 0 4 2 0\n4 2 1 5 0\n",
+        "9 (Uneven), line 1 (edge 0, counted from 0): 0 0 4 2 0",
+        "at (0, 0) 0 edges of film 0 arrive and 1 leaves, so that an outline is open there",
         open,
     );
     explained(
         &house,
-        "0 0 4 2\n1 5 0 0\n",
-        "9 (Uneven), line 1 (edge 0, counted from 0): 0 0 4 2",
-        "at (4, 2) 1 edge arrives and 0 leave, so that an outline is open there",
+        "0 0 4 2 0\n1 5 0 0 0\n",
+        "9 (Uneven), line 1 (edge 0, counted from 0): 0 0 4 2 0",
+        "at (4, 2) 1 edge of film 0 arrives and 0 leave, so that an outline is open there",
         open,
     );
+}
+
+#[test]
+fn refusals_with_films() {
+    let house = House::built("films", "");
+    explained(
+        &house,
+        "0 0 4 2 0\n4 2 1 5 256\n",
+        "16 (FilmPastRange), line 2 (edge 1, counted from 0): 4 2 1 5 256",
+        "its film is 256, and films go from 0 to 255",
+        "give the edge the film of its outline",
+    );
+    let said = house.check("0 0 4 2 1\n0 0 4 2 0\n1 1 4 2 0\n");
+    assert!(said.contains("arrives at (4, 2) from below, and so does line 2."));
+    let said = house.check("0 0 4 2 3\n4 2 0 0 5\n");
+    assert!(said.contains("at (0, 0) 0 edges of film 3 arrive and 1 leaves, "));
 }
 
 #[test]
@@ -293,7 +309,7 @@ fn a_sheet_that_is_too_large() {
         format!("outline: sheet.txt: refusal 2 (TooMany)\n  What is wrong: it has {lines} lines and {bytes}; the program takes {MOST_LINES} lines and 20,480 bytes.\n  What to do: split it into sheets of whole outlines, or call the library, which takes 4,096 edges (README.md, \"Call it\").\n")
     };
     assert_eq!(MOST_BYTES, 20_480);
-    let lines = "0 0 1 1\n".repeat(MOST_LINES) + "7";
+    let lines = "0 0 1 1 0\n".repeat(MOST_LINES) + "7";
     assert_eq!(house.check(lines), say("513", "4097 bytes"));
     let bytes = "1".repeat(MOST_BYTES + 1);
     assert_eq!(house.check(bytes), say("1", "20481 bytes"));
@@ -313,48 +329,52 @@ fn a_sheet_that_is_too_large() {
 fn malformed_lines() {
     let house = House::built("malformed", "");
     let cases: [(&[u8], &str, &str); 14] = [
-        (b"0 0 1 1", "0 0 1 1", "there is no newline after it"),
+        (b"0 0 1 1 0", "0 0 1 1 0", "there is no newline after it"),
         (b"\n", "", "it is empty"),
         (
-            b"0 0 1 1\r\n",
-            "0 0 1 1?",
+            b"0 0 1 1 0\r\n",
+            "0 0 1 1 0?",
             "it ends in a carriage return, as lines from Windows do (tr -d '\\r' takes them out)",
         ),
-        (b"0 0\t1 1\n", "0 0?1 1", "it has a tab in it"),
-        (b" 0 0 1 1\n", " 0 0 1 1", "it has a space too many"),
-        (b"0 0 1 1 \n", "0 0 1 1 ", "it has a space too many"),
-        (b"0 0  1 1\n", "0 0  1 1", "it has a space too many"),
-        (b"0 0 1\n", "0 0 1", "it has 3 numbers, not four"),
-        (b"0 0 1 1 1\n", "0 0 1 1 1", "it has 5 numbers, not four"),
+        (b"0 0\t1 1 0\n", "0 0?1 1 0", "it has a tab in it"),
+        (b" 0 0 1 1 0\n", " 0 0 1 1 0", "it has a space too many"),
+        (b"0 0 1 1 0 \n", "0 0 1 1 0 ", "it has a space too many"),
+        (b"0 0  1 1 0\n", "0 0  1 1 0", "it has a space too many"),
+        (b"0 0 1 1\n", "0 0 1 1", "it has 4 numbers, not five"),
         (
-            b"0 0 01 1\n",
-            "0 0 01 1",
+            b"0 0 1 1 1 1\n",
+            "0 0 1 1 1 1",
+            "it has 6 numbers, not five",
+        ),
+        (
+            b"0 0 01 1 0\n",
+            "0 0 01 1 0",
             "\"01\" is no number as the program reads them",
         ),
         (
-            b"-0 0 1 1\n",
-            "-0 0 1 1",
+            b"-0 0 1 1 0\n",
+            "-0 0 1 1 0",
             "\"-0\" is no number as the program reads them",
         ),
         (
-            b"0 0 1 12345678\n",
-            "0 0 1 12345678",
+            b"0 0 1 12345678 0\n",
+            "0 0 1 12345678 0",
             "\"12345678\" is no number as the program reads them",
         ),
         (
-            b"* 0 1 1\n",
-            "* 0 1 1",
+            b"* 0 1 1 0\n",
+            "* 0 1 1 0",
             "\"*\" is no number as the program reads them",
         ),
         (
-            b"0 0 1 \x00\xff\x1b\n",
-            "0 0 1 ???",
+            b"0 0 1 1 \x00\xff\x1b\n",
+            "0 0 1 1 ???",
             "\"???\" is no number as the program reads them",
         ),
     ];
     for (line, shown, wrong) in cases {
         let said = house.check([TRIANGLE.as_bytes(), line].concat());
-        let head = format!("outline: sheet.txt: refusal 15 (Malformed), line 4: {shown}\n  What is wrong: {wrong}.\n  What to do: write four whole numbers ");
+        let head = format!("outline: sheet.txt: refusal 15 (Malformed), line 4: {shown}\n  What is wrong: {wrong}.\n  What to do: write five whole numbers ");
         assert!(said.starts_with(&head), "{said}");
     }
     let long = house.check("1".repeat(MOST_BYTES));
@@ -367,12 +387,13 @@ fn random_sheets() {
     let house = House::built("random", "");
     for seed in 0..8 {
         let random = &mut Seed(seed).random();
-        for sheet in [any(random), pixels(random, 12, 9, 50, true)] {
+        let side_by_side = mosaic(random, 8, 8, &[0, 1, 255], true);
+        for sheet in [any(random), side_by_side] {
             house.check(outline::text::write_sheet(&sheet));
         }
-        for refusal in 5..10 {
+        for refusal in [5, 16, 6, 7, 8, 9] {
             let mut call = damaged(random, refusal);
-            call.edges.truncate(4 * MOST_LINES);
+            call.edges.truncate(outline::NUMBERS_PER_EDGE * MOST_LINES);
             let said = house.check(outline::text::write_sheet(&call.edges));
             assert!(!said.contains("wrong: .") && !said.contains("(,"), "{said}");
         }
@@ -398,7 +419,7 @@ fn refusals_that_the_program_does_not_give() {
             own,
         ),
         (
-            16,
+            17,
             "no word for it here",
             "the program is newer than this script",
             "look it up in docs/REFUSALS.md",
