@@ -54,7 +54,7 @@ fn the_portrait() {
     let edges = read_edges(&portrait);
     let outlines = Outlines::of(&portrait).unwrap();
     assert_eq!(outlines.count(), 11);
-    assert_eq!(touching_sites(&edges).len(), 5);
+    assert_eq!(touching_sites(&edges).len(), 4);
     let bitmap = bytes("portrait.pixels");
     for (film, mark) in [(0, b'0'), (1, b'1')] {
         let pixels = bitmap.iter().filter(|byte| **byte == mark).count();

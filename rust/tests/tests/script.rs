@@ -310,7 +310,7 @@ fn a_sheet_that_is_too_large() {
     };
     assert_eq!(MOST_BYTES, 20_480);
     let lines = "0 0 1 1 0\n".repeat(MOST_LINES) + "7";
-    assert_eq!(house.check(lines), say("513", "4097 bytes"));
+    assert_eq!(house.check(lines), say("513", "5121 bytes"));
     let bytes = "1".repeat(MOST_BYTES + 1);
     assert_eq!(house.check(bytes), say("1", "20481 bytes"));
     let endless = house.run("yes | ./outline");
