@@ -1,5 +1,5 @@
 //! The sample sheets: the program can read them, the engine accepts them, they
-//! show what they are meant to show, and the picture beside them is theirs.
+//! show what they are meant to show, and the pictures beside them are theirs.
 
 use std::fs;
 use std::path::{Path, PathBuf};
@@ -35,15 +35,21 @@ fn the_triangle() {
 }
 
 #[test]
-fn the_touching_sheet_and_its_picture() {
+fn the_touching_sheet() {
     let touching = sheet("touching.txt");
     assert_eq!(Outlines::of(&touching).unwrap().count(), 2);
     assert_eq!(touching_sites(&read_edges(&touching)).len(), 1);
-    let drawn = picture::draw(&touching).unwrap();
-    assert!(
-        drawn.as_bytes() == bytes("touching.svg"),
-        "samples/touching.svg is not what outline-svg draws of samples/touching.txt"
-    );
+}
+
+#[test]
+fn the_pictures() {
+    for name in ["touching", "portrait"] {
+        let drawn = picture::draw(&sheet(&format!("{name}.txt"))).unwrap();
+        assert!(
+            drawn.as_bytes() == bytes(&format!("{name}.svg")),
+            "samples/{name}.svg is not what outline-svg draws of samples/{name}.txt"
+        );
+    }
 }
 
 /// A face in film 0 and a scarf in film 1, which share the three sides of the

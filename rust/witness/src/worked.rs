@@ -193,46 +193,49 @@ fn every_film_at_one_point() -> Worked {
     Worked::accepted("256 films at one point", sheet, [256, 256, 768], &pairs)
 }
 
-/// Sheets of several films that are accepted.
-pub fn accepted_in_films() -> Vec<Worked> {
+/// Outlines of two films with the same top, numbered by where their later top
+/// edges stand.
+fn equal_tops() -> [Worked; 3] {
     let (up, down) = (true, false);
-    let side_by_side = [
-        (2, 2),
-        (1, 2),
-        (2, 1),
-        (2, 3),
-        (2, 0),
-        (1, 1),
-        (1, 3),
-        (1, 0),
-    ];
-    let film_1_later = between_two_points(&[(up, 0), (down, 0), (up, 1), (down, 1)]);
-    let film_0_later = between_two_points(&[(up, 0), (up, 1), (down, 1), (down, 0)]);
-    let by_later_edge = between_two_points(&[(down, 1), (down, 0), (up, 0), (up, 1)]);
-    vec![
-        Worked::accepted(
-            "neighbours of two films",
-            squares_side_by_side(1),
-            [2, 2, 10],
-            &side_by_side,
-        ),
+    let film_1_later = [(up, 0), (down, 0), (up, 1), (down, 1)];
+    let film_0_later = [(up, 0), (up, 1), (down, 1), (down, 0)];
+    let up_edge_later = [(down, 1), (down, 0), (up, 0), (up, 1)];
+    [
         Worked::accepted(
             "equal tops, film 1 later in the list",
-            film_1_later,
+            between_two_points(&film_1_later),
             [2, 1, 6],
             &[(2, 1), (2, 0), (1, 1), (1, 0)],
         ),
         Worked::accepted(
             "equal tops, film 0 later in the list",
-            film_0_later,
+            between_two_points(&film_0_later),
             [2, 2, 6],
             &[(1, 1), (2, 1), (2, 0), (1, 0)],
         ),
         Worked::accepted(
             "equal tops, the later edge arrives",
-            by_later_edge,
+            between_two_points(&up_edge_later),
             [2, 2, 6],
             &[(1, 0), (2, 0), (2, 1), (1, 1)],
+        ),
+    ]
+}
+
+/// Sheets of several films that are accepted.
+pub fn accepted_in_films() -> Vec<Worked> {
+    let left = [(2, 2), (2, 1), (2, 3), (2, 0)];
+    let right = [(1, 2), (1, 1), (1, 3), (1, 0)];
+    let side_by_side = [
+        left[0], right[0], left[1], left[2], left[3], right[1], right[2], right[3],
+    ];
+    let neighbours = squares_side_by_side(1);
+    let mut sheets = vec![
+        Worked::accepted(
+            "neighbours of two films",
+            neighbours,
+            [2, 2, 10],
+            &side_by_side,
         ),
         Worked::accepted(
             "touching in two films",
@@ -240,8 +243,10 @@ pub fn accepted_in_films() -> Vec<Worked> {
             [2, 4, 11],
             &TOUCHING_PAIRS,
         ),
-        every_film_at_one_point(),
-    ]
+    ];
+    sheets.extend(equal_tops());
+    sheets.push(every_film_at_one_point());
+    sheets
 }
 
 /// Sheets that are refused for their films.

@@ -76,7 +76,7 @@ fn check_sheet(random: &mut Random, sheet: &Sheet, met: &mut Met) {
     assert!(peak <= rows);
     check_rows(random, sheet, &outcome, peak, met);
     check_turns(&edges, &outcome, polygons);
-    check_tops(&edges);
+    met.equal_tops += check_tops(&edges);
     count(&edges, polygons, peak, met);
 }
 
@@ -175,27 +175,21 @@ fn count(edges: &[Edge], polygons: usize, peak: usize, met: &mut Met) {
         longest: declared::longest(edges),
         level_edges: edges.iter().filter(level_edge).count(),
         largest: edges.len(),
-        equal_tops: equal_tops(edges),
+        equal_tops: 0,
     });
 }
 
-/// How many outlines have the same top as another one, of another film.
-fn equal_tops(edges: &[Edge]) -> usize {
-    let outlines = declared::outlines(edges);
-    let mut tops: Vec<Point> = outlines.iter().map(|it| edges[it[0]].tail).collect();
-    tops.sort();
-    tops.dedup();
-    outlines.len() - tops.len()
-}
-
-/// Each outline's top is no higher than that of the one before it, equal tops
-/// are of two films.
-fn check_tops(edges: &[Edge]) {
+/// Each outline's top is no higher than that of the one before it, and equal
+/// tops are of two films. Gives how many are equal.
+fn check_tops(edges: &[Edge]) -> usize {
     let top = |outline: &Vec<usize>| edges[outline[0]].site(edges[outline[0]].tail);
     let tops: Vec<Site> = declared::outlines(edges).iter().map(top).collect();
+    let mut equal = 0;
     for pair in tops.windows(2) {
         assert!(pair[0].point >= pair[1].point && pair[0] != pair[1]);
+        equal += (pair[0].point == pair[1].point) as usize;
     }
+    equal
 }
 
 #[test]
