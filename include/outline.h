@@ -112,10 +112,10 @@ typedef struct {
  * Refused: polygons and sequences are as they were; so are journal and rows,
  * but for refusal 10, which leaves both all zeros.
  *
- * How many rows to lend: let C be the most edges, of all films, that pass any one
- * point (its lower end is below the point, its higher end is not) and L the number
- * of edges of the longest outline. C times the whole part of log2 L rows are
- * always enough. Who does not know L may take the number of all edges. The
+ * How many rows to lend: let C be the most edges, of all films, that pass any
+ * one point (its lower end is below the point, its higher end is not) and L the
+ * number of edges of the longest outline. C times the whole part of log2 L rows
+ * are always enough. Who does not know L may take the number of all edges. The
  * answer's peak is the exact number for this list: with so many it is accepted
  * again, with fewer it gets refusal 10. Lending more costs their clearing only.
  */
