@@ -27,7 +27,7 @@ use Rattle.steps.proofs.Alike.{AlikeBranch, AlikeRow, SmallChain, SmallRecord, 
 use Rattle.rows.specs.declared.Place.{Place}
 use Rattle.rows.specs.Layout as rows
 use Rattle.rows.specs.Layout.{onFilm, filmPlaces, filmIn, lookRow, openedIn, movedIn, finishedIn, freedIn}
-use Rattle.rows.proofs.Looking.{tip-is}
+use Rattle.rows.proofs.Looking.{tip-is, one-film}
 use Rattle.rows.proofs.Writing.{OnlyRow, other-row, opened-only, moved-only, finished-only, freed-only, opened-here, moved-here, finished-here, freed-here}
 use Rattle.journal.specs.Layout as journal
 use Rattle.journal.specs.Layout.{fitting, rowNumber, recordAt, writtenIn}
@@ -83,11 +83,7 @@ opened-holds : {n k : ℕ} {s : List ℤ} {t : ℕ → Row ℕ} → HoldsRows n 
 opened-holds {n} {k} {s} H r level l m {p} h =
     one-row H r (omega (arith, H .inside)) (omega arith) (omega arith) (λ q d u. omega (arith, d, u, l)) (opened-only s r level p) _ (rw (opened-here s r (omega (arith, H .long)) level p) (new-alike level h))
 
--- both tips of a row are on its film, and those of a row just opened on its place's
-one-film-each : (s : List ℤ) (r : ℕ) → lookRow s r .branch .falling .tip .film ≡ lookRow s r .branch .rising .tip .film
-unfolding lookRow rows.lookBranch
-one-film-each s r = refl
-
+-- the tips of a row just opened are on its place's film
 new-tip : (level : ℕ) (p : Place) (side : Side) → on side (newRow level p .branch) .tip .film ≡ p .film
 new-tip level p Rising = refl
 new-tip level p Falling = refl
@@ -169,7 +165,7 @@ unfolding filmPlaces rows.rowSlice journal.recordSlice plainTable plainJournal d
 matched list n m m′ most e l u =
     record {
       same-film = λ {p} {q} e. sameZ-true _ _ (both-true (sameZ (p .film) (q .film)) _ e .0);
-      row-film = λ s r. one-film-each s r;
+      row-film = one-film;
       opened-film = λ H r level p l side. opened-on-film H r level l p side;
       same = λ h k. place-same _ _ _ _ (h .on-film) (k .on-film) (h .inside) (k .inside) ∙ λ i. eqb (h .is-place i) (k .is-place i);
       below = λ h k. place-below _ _ _ _ (h .on-film) (k .on-film) (h .inside) (k .inside) ∙ λ i. ltb (h .is-place i / films) (k .is-place i / films);

@@ -29,6 +29,11 @@ module _ (s : List ℤ) (r : ℕ) where
   unfolding lookBranch
   tip-is side = rw branch-is
 
+  -- both tips of a row are on its film
+  pub one-film : lookRow s r .branch .falling .tip .film ≡ lookRow s r .branch .rising .tip .film
+  unfolding lookRow lookBranch
+  one-film = refl
+
   pub both-is : bothFinished (lookRow s r) ≡ (not (nonNeg (getD s (numbersPerRow * r + 3) (pos 0))) && not (nonNeg (getD s (numbersPerRow * r + 6) (pos 0))))
   unfolding lookRow lookBranch
   both-is =

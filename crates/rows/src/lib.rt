@@ -32,27 +32,6 @@ pub struct Place {
     pub point: Point,
 }
 
-impl Place {
-    // Whether both are one place.
-    pub fn same(self, other: Place) -> bool
-        ensures { λ r. ⌜ r ≡ filmPlaces .same self other ⌝ }
-    {
-        if self.film != other.film {
-            return false;
-        }
-        let here = self.point;
-        here.same(other.point)
-    }
-
-    // Whether this place is below the other, whatever their films.
-    pub fn below(self, other: Place) -> bool
-        ensures { λ r. ⌜ r ≡ filmPlaces .below self other ⌝ }
-    {
-        let point = self.point;
-        point.below(other.point)
-    }
-}
-
 // How many rows a slice has.
 pub fn rows_in(rows: &[i32]) -> usize
     ensures { λ r. ⌜ r ≡ rowsIn (now (rows .entry)) ⌝ }

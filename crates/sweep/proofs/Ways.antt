@@ -10,6 +10,8 @@ use lib.IntN.{ℤ}
 use lib.ListN.{length}
 use borrow.Author.Tests.{lt-ltb, le-ltb, eq-eqb, ne-eqb}
 use Rattle.laws.specs.Counting.{first}
+use Rattle.sheet.specs.Points.{isSame}
+use Rattle.sheet.proofs.Signed.{sameZ-self}
 use Rattle.rows.specs.declared.Place.{Place}
 use Rattle.steps.specs.declared.Side.{Side}
 use Rattle.steps.specs.declared.Found.{Found}
@@ -101,25 +103,30 @@ module _ (a b : List ℤ) (left level : ℕ) (s : Progress) (above : ℕ) (side 
       unfolding up.onRow up.meet
       row-met la lb j = rw (← i, met, n, finished) ((rw (same-room a b a₃ b₁ la lb) at j) ∙ sym (goes-on _ _ (p .end) d))
 
+-- an edge's ends are of one film, so they are the same where their points are
+same-ends : (e : NamedEdge) → filmPlaces .same (edgeOf e .tail) (edgeOf e .head) ≡ isSame (e .tail) (e .head)
+unfolding filmPlaces
+same-ends e = rw (sameZ-self (e .film))
+
 -- an edge of any level
-module _ (a b : List ℤ) (left level : ℕ) (s : Progress) (e : NamedEdge) {t : Bool} (h : t ≡ filmPlaces .same (e .tail) (e .head)) where
+module _ (a b : List ℤ) (left level : ℕ) (s : Progress) (e : NamedEdge) {t : Bool} (h : t ≡ isSame (e .tail) (e .head)) where
   pub treat-closed : t ≡ true → {a₁ b₁ : List ℤ} {p : Progress} → state a₁ b₁ p ≡ up.close (lentRoom a b) (state a b s) level (edgeOf e) →
       state a₁ b₁ p ≡ up.treat (lentRoom a b) left level (state a b s) (edgeOf e)
   unfolding up.treat room
   treat-closed k i = i ∙ sym (by left)
     where
       by : (n : ℕ) → up.treat (lentRoom a b) n level (state a b s) (edgeOf e) ≡ up.close (lentRoom a b) (state a b s) level (edgeOf e)
-      by zero = rw (← h, k)
-      by (suc n) = rw (← h, k)
+      by zero = rw (same-ends e, ← h, k)
+      by (suc n) = rw (same-ends e, ← h, k)
 
   module _ (k : t ≡ false) where
     pub treat-none-left : left ≡ 0 → up.ended Overrun (state a b s) ≡ up.treat (lentRoom a b) left level (state a b s) (edgeOf e)
     unfolding up.treat room
-    treat-none-left z = rw (z, ← h, k)
+    treat-none-left z = rw (z, same-ends e, ← h, k)
 
 -- step 1 has searched: the edge's ends differ, a level is left, and f is what has its bottom for a tip
 pub record Searched (a b : List ℤ) (left level : ℕ) (s : Progress) (e : NamedEdge) (side : Side) (p : Place) (f : Found) : Type 0 where
-  pub apart : filmPlaces .same (e .tail) (e .head) ≡ false
+  pub apart : isSame (e .tail) (e .head) ≡ false
   pub above : 0 < left
   pub side-is : side ≡ up.sideOf filmPlaces (edgeOf e)
   pub bottom-is : p ≡ up.bottom side (edgeOf e)
@@ -127,13 +134,13 @@ pub record Searched (a b : List ℤ) (left level : ℕ) (s : Progress) (e : Name
 
 module _ {a b : List ℤ} {left level : ℕ} {s : Progress} {e : NamedEdge} {side : Side} {p : Place} {f : Found} (S : Searched a b left level s e side p f) where
   steps : up.treat (lentRoom a b) left level (state a b s) (edgeOf e) ≡ up.inChain (lentRoom a b) (up.treat (lentRoom a b) (left - 1) (level + 1)) (state a b s) level side (edgeOf e) f
-  unfolding up.treat up.stepsOn up.find room rows.rowSlice filmPlaces
+  unfolding up.treat up.stepsOn up.find room rows.rowSlice
   steps = by left (S .above)
     where
       by : (n : ℕ) → 0 < n →
           up.treat (lentRoom a b) n level (state a b s) (edgeOf e) ≡ up.inChain (lentRoom a b) (up.treat (lentRoom a b) (n - 1) (level + 1)) (state a b s) level side (edgeOf e) f
       by zero m = absurd (omega arith)
-      by (suc n) m = let z : suc n - 1 ≡ n = omega arith in rw (S .apart, z, add-one, S .found-is, S .bottom-is, S .side-is)
+      by (suc n) m = let z : suc n - 1 ≡ n = omega arith in rw (same-ends e, S .apart, z, add-one, S .found-is, S .bottom-is, S .side-is)
 
   pub treat-found : {r : ℕ} → f ≡ At r → {a₁ b₁ : List ℤ} {p₁ : Progress} →
       state a₁ b₁ p₁ ≡ up.onRow (lentRoom a b) (up.treat (lentRoom a b) (left - 1) (level + 1)) (state a b s) level side (edgeOf e) r →

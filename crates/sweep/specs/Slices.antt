@@ -33,7 +33,7 @@ abbrev pub state : List ℤ → List ℤ → Progress → State (List ℤ) (List
 state a b s = record { rows = a; journal = b; records = s .records; reach = s .peak; peak = s .peak; end = s .end }
 
 abbrev pub edgeOf : NamedEdge → LevelEdge Place
-edgeOf e = record { name = e .name; tail = e .tail; head = e .head; length = record { rising = e .rising; falling = e .falling }; apart = e .apart }
+edgeOf e = record { name = e .name; tail = onFilm (e .film) (e .tail); head = onFilm (e .film) (e .head); length = record { rising = e .rising; falling = e .falling }; apart = e .apart }
 
 -- which places of a list are apart
 unfoldable pub apartAt : List ℤ → Place → Bool

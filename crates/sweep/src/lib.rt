@@ -5,6 +5,7 @@ mod treating;
 pub mod up;
 
 use rows::Place;
+use sheet::Point;
 use steps::End;
 use steps::Side;
 ghost use mathlib.Core.Path.{_≡_};
@@ -71,11 +72,12 @@ impl Progress {
     }
 }
 
-// An edge of any level: its name, its ends, its two lengths, and whether its top is apart.
+// An edge of any level: its name, its ends, its film, its two lengths, and whether its top is apart.
 struct NamedEdge {
     name: usize,
-    tail: Place,
-    head: Place,
+    tail: Point,
+    head: Point,
+    film: i32,
     rising: u32,
     falling: u32,
     apart: bool,
@@ -97,6 +99,14 @@ impl NamedEdge {
     // The lower end, where the edge works on the side; on the other side that is the higher end.
     fn bottom(self, side: Side) -> Place
         ensures { λ p. ⌜ p ≡ up.bottom side (edgeOf self) ⌝ }
+    {
+        let film = self.film;
+        let point = self.bottom_point(side);
+        Place { film, point }
+    }
+
+    fn bottom_point(self, side: Side) -> Point
+        ensures { λ p. ⌜ p ≡ up.bottom side (edgeOf self) .point ⌝ }
     {
         match side {
             Side::Rising => self.tail,

@@ -104,14 +104,18 @@ fn as_edge(rows: &[i32], r: usize) -> NamedEdge
     requires { ⌜ HasRow (now rows) r ⌝ }
     ensures { λ e. ⌜ (edgeOf e ≡ up.asEdge r (lookRow (now (rows .entry)) r)) × (e .falling < 2147483648) ⌝ }
 {
-    let tail = rows::tip_of(rows, r, Side::Falling);
-    let head = rows::tip_of(rows, r, Side::Rising);
+    let falling_tip = rows::tip_of(rows, r, Side::Falling);
+    let rising_tip = rows::tip_of(rows, r, Side::Rising);
+    let film = falling_tip.film;
+    let tail = falling_tip.point;
+    let head = rising_tip.point;
     let rising = rows::length_of(rows, r, Side::Rising);
     let falling = rows::length_of(rows, r, Side::Falling);
     NamedEdge {
         name: r,
         tail,
         head,
+        film,
         rising,
         falling,
         apart: false,

@@ -3,7 +3,6 @@ use crate::NamedEdge;
 use crate::Progress;
 use crate::Swept;
 use crate::treating;
-use rows::Place;
 use sheet::Edge;
 use steps::End;
 ghost use mathlib.Core.Path.{_≡_};
@@ -24,14 +23,13 @@ fn list_edge(edges: &[i32], i: usize) -> NamedEdge
 {
     let edge = Edge::at(edges, i);
     let film = edge.film;
-    let from = edge.tail;
-    let tail = Place { film, point: from };
-    let to = edge.head;
-    let head = Place { film, point: to };
+    let tail = edge.tail;
+    let head = edge.head;
     NamedEdge {
         name: i,
         tail,
         head,
+        film,
         rising: 1,
         falling: 0,
         apart: false,

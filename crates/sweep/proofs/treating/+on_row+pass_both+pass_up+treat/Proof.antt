@@ -36,7 +36,7 @@ use Rattle.rows.proofs.finish.Reads as finish-reads
 use Rattle.rows.proofs.free_row.Reads as free-row-reads
 use Rattle.rows.proofs.lowest_free.Reads as lowest-free-reads
 use Rattle.rows.proofs.rows_in.Reads as rows-in-reads
-use Rattle.rows.proofs.Place.same.Reads as same-reads
+use Rattle.sheet.proofs.Point.same.Reads as same-reads
 use Rattle.steps.proofs.Side.other.Reads as other-reads
 use Rattle.sweep.proofs.NamedEdge.bottom.Reads as bottom-reads
 use Rattle.sweep.proofs.NamedEdge.side.Reads as side-reads
