@@ -120,6 +120,36 @@ fn the_same_sheet_in_two_films() {
     assert!(svg.contains(" films: 2, touching points: 0, "));
 }
 
+/// Where two films share a side both colours show: over the lines, dashes in the
+/// opposite order. One film needs none.
+#[test]
+fn a_shared_side_shows_both_films() {
+    let of_film = |x: i32, film: i32| {
+        let corners = [(x, 0), (x + 2, 0), (x + 2, 2), (x, 2)];
+        let edge = move |at: usize| (corners[at], corners[(at + 1) % 4], film);
+        (0..4).map(edge)
+    };
+    let mut edges: Vec<_> = of_film(0, 0).chain(of_film(2, 1)).collect();
+    edges.sort_by_key(|(tail, head, _)| (tail.1, tail.0).max((head.1, head.0)));
+    let numbers = |edge: ((i32, i32), (i32, i32), i32)| {
+        let (tail, head, film) = edge;
+        [tail.0, tail.1, head.0, head.1, film]
+    };
+    let list: Vec<i32> = edges.into_iter().flat_map(numbers).collect();
+    let svg = draw(&list).unwrap();
+    let strokes = |mark: &str| -> Vec<String> {
+        let lines = svg.lines().filter(|line| line.contains(mark));
+        lines
+            .map(|line| values(line, "stroke")[0].to_string())
+            .collect()
+    };
+    let mut lines = strokes("\"outline\"");
+    lines.reverse();
+    assert_eq!(lines.len(), 2);
+    assert_eq!(strokes("stroke-dasharray"), lines);
+    assert!(!draw(&touching(0)).unwrap().contains("stroke-dasharray"));
+}
+
 /// Outlines of several films with one top: every number can be read.
 #[test]
 fn equal_tops_lie_beside_one_another() {

@@ -12,8 +12,10 @@ use super::sheet::{Point, Round, Sheet};
 
 /// Sizes at which marks are drawn where edges lie as far apart as wanted.
 const LINE: f64 = 2.2;
+const CORE: f64 = 1.2;
 const ARROW: f64 = 9.0;
 const DOT: f64 = 5.5;
+const DASH: f64 = 6.0;
 
 /// The radius of a top's disc.
 pub const DISC: f64 = 9.5;
@@ -24,8 +26,9 @@ pub const RING: f64 = 12.0;
 /// Draws the whole sheet.
 pub fn draw(sheet: &Sheet, frame: &Frame, canvas: &mut Canvas) {
     draw_film(sheet, frame, canvas);
+    draw_lines(sheet, frame, canvas);
     for round in &sheet.rounds {
-        draw_edges(round, frame, canvas);
+        draw_arrow_heads(round, frame, canvas);
     }
     draw_rings(sheet, frame, canvas);
     for (round, top) in sheet.rounds.iter().zip(tops(sheet, frame)) {
@@ -59,15 +62,35 @@ fn line(round: &Round, frame: &Frame) -> String {
     format!("M{}Z", corners.join("L"))
 }
 
-/// The edges of an outline, each with an arrow head past its middle.
-fn draw_edges(round: &Round, frame: &Frame, canvas: &mut Canvas) {
-    let colour = colour::of_film(round.film);
+/// The lines of all outlines. A side that two films share is covered by the later
+/// outline's line; thinner dashes in the opposite order bring the earlier one's
+/// back, so that both colours show there and nothing changes elsewhere.
+fn draw_lines(sheet: &Sheet, frame: &Frame, canvas: &mut Canvas) {
+    for round in &sheet.rounds {
+        draw_line(round, "class=\"outline\"", LINE, frame, canvas);
+    }
+    if sheet.films > 1 {
+        let dashes = format!("stroke-dasharray=\"{}\"", shown(DASH * frame.size));
+        for round in sheet.rounds.iter().rev() {
+            draw_line(round, &dashes, CORE, frame, canvas);
+        }
+    }
+}
+
+/// The line of an outline in its film's colour.
+fn draw_line(round: &Round, kind: &str, width: f64, frame: &Frame, canvas: &mut Canvas) {
     canvas.add(&format!(
-        "<path class=\"outline\" fill=\"none\" stroke=\"{}\" stroke-width=\"{}\" stroke-linejoin=\"round\" d=\"{}\"/>",
-        colour,
-        shown(LINE * frame.size),
+        "<path {} fill=\"none\" stroke=\"{}\" stroke-width=\"{}\" stroke-linejoin=\"round\" d=\"{}\"/>",
+        kind,
+        colour::of_film(round.film),
+        shown(width * frame.size),
         line(round, frame)
     ));
+}
+
+/// An arrow head past the middle of each edge of an outline.
+fn draw_arrow_heads(round: &Round, frame: &Frame, canvas: &mut Canvas) {
+    let colour = colour::of_film(round.film);
     let heads: String = round
         .edges()
         .map(|edge| arrow_head(&Way::of(edge, frame), frame.size))
