@@ -3,7 +3,7 @@
 
 use std::fmt::Write;
 
-use witness::generate::{comb, pixels, saw, saws, spiral, squares, Random, Sheet};
+use witness::generate::{comb, patchwork, pixels, saw, saws, spiral, squares, Random, Sheet};
 
 /// A sheet that is measured: its family, its name within it, its edges.
 pub struct Shape {
@@ -59,6 +59,10 @@ pub fn shapes(random: &mut Random) -> Vec<Shape> {
         let sheet = pixels(random, side, side, 50, false);
         all.push(shape("pixel art", format!("{side} by {side}"), sheet));
     }
+    for side in [4, 8, 16, 32] {
+        let sheet = patchwork(random, side, side);
+        all.push(shape("many films", format!("{side} by {side}"), sheet));
+    }
     all
 }
 
@@ -105,8 +109,8 @@ pub fn table(all: &[Measured]) -> String {
     text
 }
 
-const COLOURS: [&str; 6] = [
-    "#1b6ca8", "#b3411e", "#3c7d3c", "#7a4fa0", "#a07a10", "#555555",
+const COLOURS: [&str; 7] = [
+    "#1b6ca8", "#b3411e", "#3c7d3c", "#7a4fa0", "#a07a10", "#555555", "#0f8b8d",
 ];
 
 /// The plot: on both axes powers of two, across the bound, upwards the peak; a
