@@ -67,7 +67,7 @@ fn turned_of(answer: TurnAnswer) -> Turned
     }
 }
 
-// Numbers the edges of a list: four numbers an edge, in sweep order.
+// Numbers the edges of a list: five numbers an edge, the film last, in sweep order.
 #[no_mangle]
 pub extern "C" fn outline_number(
     edges: &[i32],

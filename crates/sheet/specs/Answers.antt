@@ -1,4 +1,4 @@
--- The answer sheet of the numbering (01, "The answer sheet"): each refusal's number and place, when it is given, what it leaves, the order of trying.
+-- The answer sheet of the numbering (01, "The answer sheet", and 16 of 02): each refusal's number and place, when it is given, what it leaves, the order of trying.
 use Prim.Native.Nat.{ℕ, zero, suc, _+_, _-_, _*_, _%_}
 use mathlib.Core.Bool.{Bool, true, false, cond, not, _&&_, _||_}
 use mathlib.Core.List.{List, _++_}
