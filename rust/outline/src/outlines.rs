@@ -23,6 +23,7 @@ use crate::{JOURNAL_NUMBERS_PER_EDGE, NUMBERS_PER_EDGE, NUMBERS_PER_ROW};
 /// assert_eq!(outlines.sequences(), [2, 2, 1, 3, 0, 1, 3, 0]);
 /// assert_eq!(outlines.places(1), [7, 5, 1, 6]);
 /// assert_eq!(outlines.places(2), [4, 2, 0, 3]);
+/// assert_eq!((outlines.film(1), outlines.film(2)), (Some(1), Some(0)));
 /// assert_eq!((outlines.peak(), outlines.records()), (2, 10));
 /// # Ok::<(), outline::Refusal>(())
 /// ```
@@ -33,6 +34,7 @@ pub struct Outlines {
     turns: Vec<u32>,
     /// Where each outline begins in the turn list, and where the last ends.
     starts: Vec<usize>,
+    films: Vec<u8>,
     peak: u32,
     records: u32,
 }
@@ -46,11 +48,13 @@ impl Outlines {
             sequences: vec![0; count],
             turns: vec![0; count],
             starts: Vec::new(),
+            films: Vec::new(),
             peak: 0,
             records: 0,
         };
         outlines.number(edges)?;
         outlines.turn()?;
+        outlines.read_films(edges);
         Ok(outlines)
     }
 
@@ -78,6 +82,13 @@ impl Outlines {
         self.starts = (0..self.turns.len()).filter(first).collect();
         self.starts.push(self.turns.len());
         Ok(())
+    }
+
+    /// All edges of an outline are of one film: that of its first edge.
+    fn read_films(&mut self, edges: &[i32]) {
+        let film = |first: &u32| edges[NUMBERS_PER_EDGE * (*first as usize + 1) - 1] as u8;
+        let films = (1..=self.count()).map(|outline| film(&self.places(outline)[0]));
+        self.films = films.collect();
     }
 
     /// How many outlines there are.
@@ -112,6 +123,12 @@ impl Outlines {
             return &[];
         }
         &self.turns[self.starts[outline - 1]..self.starts[outline]]
+    }
+
+    /// The film of one outline, and so of each of its edges. None for a number
+    /// that no outline has.
+    pub fn film(&self, outline: usize) -> Option<u8> {
+        self.films.get(outline.checked_sub(1)?).copied()
     }
 
     /// The most rows that were in use at any moment.

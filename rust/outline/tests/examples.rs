@@ -60,6 +60,8 @@ fn neighbours_of_two_films() -> Result<(), Refusal> {
     assert_eq!((outlines.peak(), outlines.records()), (2, 10));
     assert_eq!(outlines.turns(), [7, 5, 1, 6, 4, 2, 0, 3]);
     assert!(outlines.places(0).is_empty() && outlines.places(3).is_empty());
+    let films: Vec<Option<u8>> = (0..4).map(|outline| outlines.film(outline)).collect();
+    assert_eq!(films, [None, Some(1), Some(0), None]);
     Ok(())
 }
 

@@ -17,8 +17,8 @@ const LIGHTNESS: [f64; 7] = [0.41, 0.33, 0.49, 0.29, 0.45, 0.37, 0.31];
 const STRENGTH: f64 = 0.74;
 
 /// The colour of a film, as SVG writes it.
-pub fn of_film(film: i32) -> String {
-    let turn = film as usize;
+pub fn of_film(film: u8) -> String {
+    let turn = usize::from(film);
     let hue = (FIRST + turn * STEP) % CIRCLE;
     let lightness = LIGHTNESS[turn / SHARED % LIGHTNESS.len()];
     let [red, green, blue] = rgb(hue as f64 / 6_000.0, lightness);
@@ -40,12 +40,11 @@ fn rgb(hue: f64, lightness: f64) -> [u8; 3] {
 #[cfg(test)]
 mod tests {
     use super::*;
-    use crate::MOST_FILM;
     use std::collections::BTreeSet;
 
     #[test]
     fn no_two_films_share_a_colour() {
-        let colours: BTreeSet<String> = (0..=MOST_FILM).map(of_film).collect();
+        let colours: BTreeSet<String> = (0..=u8::MAX).map(of_film).collect();
         assert_eq!(colours.len(), 256);
     }
 

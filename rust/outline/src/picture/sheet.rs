@@ -15,7 +15,7 @@ pub struct Round {
     /// The outline's number.
     pub number: usize,
     /// The film of its edges.
-    pub film: i32,
+    pub film: u8,
     /// The tails of its edges.
     pub corners: Vec<Point>,
 }
@@ -51,18 +51,19 @@ pub struct Sheet {
 impl Sheet {
     /// The sheet of a list and its numbering.
     pub fn new(edges: &[i32], outlines: &Outlines) -> Sheet {
-        let edge = |place: &u32| {
+        let tail = |place: &u32| {
             let at = NUMBERS_PER_EDGE * *place as usize;
-            &edges[at..at + NUMBERS_PER_EDGE]
+            (edges[at], edges[at + 1])
         };
-        let tail = |place: &u32| (edge(place)[0], edge(place)[1]);
-        let round = |number: usize| Round {
-            number,
-            film: edge(&outlines.places(number)[0])[4],
-            corners: outlines.places(number).iter().map(tail).collect(),
+        let round = |number: usize| {
+            Some(Round {
+                number,
+                film: outlines.film(number)?,
+                corners: outlines.places(number).iter().map(tail).collect(),
+            })
         };
-        let rounds: Vec<Round> = (1..=outlines.count()).map(round).collect();
-        let films: BTreeSet<i32> = rounds.iter().map(|round| round.film).collect();
+        let rounds: Vec<Round> = (1..=outlines.count()).filter_map(round).collect();
+        let films: BTreeSet<u8> = rounds.iter().map(|round| round.film).collect();
         Sheet {
             touching: met_twice(&rounds),
             films: films.len(),
@@ -92,7 +93,7 @@ fn met_twice(rounds: &[Round]) -> Vec<Point> {
             .map(corner)
             .collect::<Vec<_>>()
     };
-    let mut times: BTreeMap<(i32, i32, i32), usize> = BTreeMap::new();
+    let mut times: BTreeMap<(i32, i32, u8), usize> = BTreeMap::new();
     for corner in rounds.iter().flat_map(of_round) {
         *times.entry(corner).or_insert(0) += 1;
     }
