@@ -2,7 +2,7 @@
 -- accepted, and there the numbers are those of crates/hartley (Running). The peak is exact since the run with as many rows as the peak, or more, is the
 -- same to the last record, and the run with fewer ends without a free row.
 use mathlib.Core.Path.{_≡_, refl, sym, ap, _∙_, subst}
-use mathlib.Core.Logic.{_⊎_, ⊎-elim}
+use mathlib.Core.Logic.{⊎-elim}
 use mathlib.Core.List.{List}
 use Prim.Native.Nat.{ℕ, _+_, _*_, _≤_, _<_}
 use native.Mathlib.Omega.{arith}
@@ -23,7 +23,6 @@ use Rattle.sheet.specs.Numbering.{Numbering}
 use Rattle.sheet.specs.Answers.{numberOf, checked, answered, zeros, followedByZeros}
 use Rattle.sheet.proofs.RowsEnough.{rowsEnough, rows-enough}
 use Rattle.checks.proofs.Passed.{passed}
-use Rattle.steps.specs.declared.End.{End}
 use Rattle.steps.specs.declared.End.the-variants.{Done, NoFreeRow}
 use Rattle.steps.specs.Rows.{recordNumbers}
 use Rattle.steps.specs.SweepDown.{naturalPart}

@@ -31,7 +31,7 @@ use Rattle.journal.specs.Layout.{recordSlice, recordsIn}
 use Rattle.sweep.specs.Slices.{room, apartAt, listEdges}
 use Rattle.sweep.specs.Lookup.{numbersIn, tables, reading}
 use Rattle.hartley.proofs.results.Results as results
-use Rattle.numbering.specs.Outcome.{Lent, Left, callOf, leftAs, up, down, answerBy, leaves, outcome}
+use Rattle.numbering.specs.Outcome.{Lent, callOf, leftAs, up, down, answerBy, leaves, outcome}
 use Rattle.numbering.specs.OnSlices as slices
 use Rattle.numbering.specs.OnSlices.{inJournal, wholeJournal, afterSweep, sweepsOn}
 use Rattle.numbering.proofs.Matching.{Ranked, HoldsRows, HoldsRecords, sliceRoom, matched}

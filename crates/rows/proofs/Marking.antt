@@ -1,7 +1,7 @@
 -- Marks stay good. A search starts at or before every row below the peak with the tip that it looks for, so no row before its start has such a tip.
 -- Marking lets no search start later, a row that is opened or whose tip is moved gets its marks, and finishing and freeing keep a row's level and tips.
 use mathlib.Core.Path.{_≡_, refl, _∙_}
-use mathlib.Core.Bool.{true, false, _&&_}
+use mathlib.Core.Bool.{true, false}
 use mathlib.Core.Logic.{⊎-elim}
 use mathlib.Core.List.{List}
 use Prim.Native.Nat.{ℕ, _+_, _-_, _/_, _≤_, _<_, max}

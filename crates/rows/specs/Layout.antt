@@ -1,8 +1,8 @@
 -- How a table of rows lies in a slice of signed numbers, row r in the eight from 8 r on. Number 0 is the level and 1 of a row in use, and 0 or below
 -- in a free one, which so keeps the level that it had. Numbers 1, 2, 3 are x, y and length of the rising branch, numbers 4, 5, 6 those of the falling
 -- one, number 7 is the film of both. A length below 0 is that of a finished branch: negsuc n, which is -1 - n, for the length n.
-use Prim.Native.Nat.{ℕ, zero, suc, _+_, _-_, _*_, _/_, _≤_}
-use mathlib.Core.Bool.{false, not, _&&_}
+use Prim.Native.Nat.{ℕ, zero, suc, _+_, _-_, _*_, _≤_}
+use mathlib.Core.Bool.{not, _&&_}
 use mathlib.Core.List.{List, [], _∷_}
 use lib.Dec.{leb}
 use lib.IntN.{ℤ, pos, negsuc}

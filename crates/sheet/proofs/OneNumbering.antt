@@ -3,7 +3,7 @@
 -- same sequence numbers everywhere. The polygons stand in the order of their later top edges in both, without a gap, so no polygon number is smaller in
 -- one than in the other.
 use mathlib.Core.Path.{_≡_, refl, ap, sym, _∙_}
-use mathlib.Core.Logic.{_⊎_, ⊎-elim}
+use mathlib.Core.Logic.{⊎-elim}
 use Prim.Native.Nat.{ℕ, zero, suc, _≤_, _<_}
 use native.Mathlib.Omega.{arith}
 use Rattle.laws.proofs.Deciding.{lt-or-le, eq-or-ne}

@@ -1,13 +1,13 @@
 -- A place tells its point and its film: its height is the point's rank, and places of one height and one film are one.
 use mathlib.Core.Path.{_≡_, refl, sym, ap, _∙_}
-use mathlib.Core.Bool.{Bool, true, false, _&&_}
+use mathlib.Core.Bool.{true, false, _&&_}
 use mathlib.Core.Logic.{⊎-elim}
 use Prim.Native.Nat.{ℕ, _/_, _%_, _<_}
 use native.Mathlib.Omega.{arith}
 use lib.Dec.{eqb, ltb, leb}
 use lib.IntN.{ℤ, pos, negsuc}
 use lib.Signed.{mag}
-use borrow.Author.Tests.{ltb-true, eq-eqb, ne-eqb, eqb-true}
+use borrow.Author.Tests.{ltb-true, eq-eqb, eqb-true}
 use Rattle.laws.proofs.Deciding.{true-or-false, both-true, not-both}
 use Rattle.sheet.specs.declared.Point.{Point}
 use Rattle.sheet.specs.Points.{sameZ, inRange, isFilm, isBelow, isSame}

@@ -1,5 +1,5 @@
 -- A list of numbers as edges, and as the sweep sees it: places, compared by their heights.
-use Prim.Native.Nat.{ℕ, _+_, _*_, _/_, _%_, min, max, _≤_, _<_}
+use Prim.Native.Nat.{ℕ, _+_, _*_, _/_, _%_, min, max}
 use mathlib.Core.Bool.{Bool, false}
 use mathlib.Core.List.{List}
 use lib.IntN.{ℤ, pos}

@@ -2,9 +2,8 @@
 -- opened and is not in use. The two runs hold the same rows and records and count the same peak.
 use mathlib.Core.Path.{_≡_, refl, ap, _∙_}
 use mathlib.Core.Bool.{Bool, false, cond}
-use Prim.Native.Nat.{ℕ, _+_, _≤_, _<_, max}
+use Prim.Native.Nat.{ℕ, _≤_, _<_}
 use native.Mathlib.Omega.{arith}
-use lib.Dec.{eqb}
 use borrow.Author.Tests.{ne-eqb}
 use Rattle.steps.specs.Rows.{on, Row, Record, LevelEdge, Places, Room}
 use Rattle.steps.specs.SweepUp.{Sweep, sweepUp, start}

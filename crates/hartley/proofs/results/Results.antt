@@ -23,7 +23,7 @@ use Rattle.steps.proofs.Bounded.{sweep-within}
 use Rattle.steps.proofs.Reaching.{SameRun, all-rows}
 use Rattle.steps.proofs.Stopping.{stops-at, stopped}
 use Rattle.hartley.proofs.results.NearRun.{nearRun, readWith}
-use Rattle.hartley.proofs.results.PeakExact.{Cut, sweep-cut}
+use Rattle.hartley.proofs.results.PeakExact.{sweep-cut}
 use Rattle.hartley.proofs.step.Given.{Setting}
 use Rattle.hartley.proofs.results.SweepEnded.{Finished, sweep-ends, when-done}
 use Rattle.hartley.proofs.results.GivesNumbering.{gives-numbering, sequence-natural, records-few}
