@@ -53,9 +53,9 @@ module _ (test : ℕ → Bool) (n f : ℕ) (found : f ≡ first test n) where
   refuse-not refusal rest l = rw (le-ltb (first test n) n (omega (arith, found)))
 
 -- 3 and 4, of a list that passes 1 and 2
-module _ (s : List ℤ) (polygons sequences journal : ℕ) (list : listChecked s ≡ Passed) where
+module _ (s : List ℤ) (polygons sequences turns journal : ℕ) (list : listChecked s ≡ Passed) where
   abbrev call : Call
-  call = record { list = s; polygons = polygons; sequences = sequences; journal = journal }
+  call = record { list = s; polygons = polygons; sequences = sequences; turns = turns; journal = journal }
 
   pub on-polygons : (polygons ≡ length s / numbersPerEdge → ⊥) → Refused ListsDiffer ≡ lengthsChecked call
   unfolding lengthsChecked listsDiffer edgesIn
@@ -67,13 +67,22 @@ module _ (s : List ℤ) (polygons sequences journal : ℕ) (list : listChecked s
     on-sequences h = rw (list, eq-eqb polygons (length s / numbersPerEdge) one-each, ne-eqb sequences (length s / numbersPerEdge) h)
 
     module _ (one-too : sequences ≡ length s / numbersPerEdge) where
-      pub on-journal : journal < journalNumbersPerEdge * (length s / numbersPerEdge) → Refused JournalShort ≡ lengthsChecked call
-      unfolding lengthsChecked listsDiffer journalShort edgesIn
-      on-journal h = rw (list, eq-eqb polygons (length s / numbersPerEdge) one-each, eq-eqb sequences (length s / numbersPerEdge) one-too, lt-ltb journal (journalNumbersPerEdge * (length s / numbersPerEdge)) h)
+      pub on-turns : (turns ≡ length s / numbersPerEdge → ⊥) → Refused ListsDiffer ≡ lengthsChecked call
+      unfolding lengthsChecked listsDiffer edgesIn
+      on-turns h = rw (list, eq-eqb polygons (length s / numbersPerEdge) one-each, eq-eqb sequences (length s / numbersPerEdge) one-too, ne-eqb turns (length s / numbersPerEdge) h)
 
-      pub on-lengths : journalNumbersPerEdge * (length s / numbersPerEdge) ≤ journal → Passed ≡ lengthsChecked call
-      unfolding lengthsChecked listsDiffer journalShort edgesIn
-      on-lengths h = rw (list, eq-eqb polygons (length s / numbersPerEdge) one-each, eq-eqb sequences (length s / numbersPerEdge) one-too, le-ltb journal (journalNumbersPerEdge * (length s / numbersPerEdge)) h)
+      module _ (one-there : turns ≡ length s / numbersPerEdge) where
+        lists-fit : listsDiffer call ≡ false
+        unfolding listsDiffer edgesIn
+        lists-fit = rw (eq-eqb polygons (length s / numbersPerEdge) one-each, eq-eqb sequences (length s / numbersPerEdge) one-too, eq-eqb turns (length s / numbersPerEdge) one-there) refl
+
+        pub on-journal : journal < journalNumbersPerEdge * (length s / numbersPerEdge) → Refused JournalShort ≡ lengthsChecked call
+        unfolding lengthsChecked journalShort edgesIn
+        on-journal h = rw (list, lists-fit, lt-ltb journal (journalNumbersPerEdge * (length s / numbersPerEdge)) h)
+
+        pub on-lengths : journalNumbersPerEdge * (length s / numbersPerEdge) ≤ journal → Passed ≡ lengthsChecked call
+        unfolding lengthsChecked journalShort edgesIn
+        on-lengths h = rw (list, lists-fit, le-ltb journal (journalNumbersPerEdge * (length s / numbersPerEdge)) h)
 
 -- 8 and 9, by the least edges found
 module _ (s : List ℤ) {f : AtFault} (found : f ≡ firstAtFault s) where

@@ -37,6 +37,7 @@ pub record AllPassed (c : Call) : Type 0 where
   pub few : edgesIn (c .list) ≤ mostEdges
   pub polygons : c .polygons ≡ edgesIn (c .list)
   pub sequences : c .sequences ≡ edgesIn (c .list)
+  pub turns : c .turns ≡ edgesIn (c .list)
   pub journal : journalNumbersPerEdge * edgesIn (c .list) ≤ c .journal
   pub tails-in-range : (e : ℕ) → e < edgesIn (c .list) → inRange (edgeAt (c .list) e .tail) ≡ true
   pub heads-in-range : (e : ℕ) → e < edgesIn (c .list) → inRange (edgeAt (c .list) e .head) ≡ true
@@ -128,9 +129,11 @@ module _ (c : Call) (l : LengthsFit c) where
   unfolding tooMany
   few = ltb-false _ _ (l .few)
 
-  one-each : (c .polygons ≡ edgesIn (c .list)) × (c .sequences ≡ edgesIn (c .list))
+  one-each : (c .polygons ≡ edgesIn (c .list)) × (c .sequences ≡ edgesIn (c .list)) × (c .turns ≡ edgesIn (c .list))
   unfolding listsDiffer
-  one-each = let w = both-true _ _ (not-false _ (l .one-each)) in (eqb-true _ _ (w .0), eqb-true _ _ (w .1))
+  one-each =
+      let w = both-true _ _ (not-false _ (l .one-each)) in
+      let v = both-true _ _ (w .1) in (eqb-true _ _ (w .0), eqb-true _ _ (v .0), eqb-true _ _ (v .1))
 
   long : journalNumbersPerEdge * edgesIn (c .list) ≤ c .journal
   unfolding journalShort
@@ -144,6 +147,7 @@ all-passed c (no-row l f r u) =
       few = few c l;
       polygons = one-each c l .0;
       sequences = one-each c l .1;
+      turns = one-each c l .2;
       journal = long c l;
       tails-in-range = tail-in E;
       heads-in-range = head-in E;

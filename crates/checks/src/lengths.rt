@@ -23,8 +23,14 @@ pub fn check_list(edges: &[i32]) -> Check
 }
 
 // 1 to 4.
-pub fn check(edges: &[i32], polygons: usize, sequences: usize, journal: usize) -> Check
-    ensures { λ r. ⌜ r ≡ lengthsChecked (record { list = now (edges .entry); polygons = polygons; sequences = sequences; journal = journal }) ⌝ }
+pub fn check(
+    edges: &[i32],
+    polygons: usize,
+    sequences: usize,
+    turns: usize,
+    journal: usize,
+) -> Check
+    ensures { λ r. ⌜ r ≡ lengthsChecked (record { list = now (edges .entry); polygons = polygons; sequences = sequences; turns = turns; journal = journal }) ⌝ }
 {
     if let Check::Refused(refusal) = check_list(edges) {
         return Check::Refused(refusal);
@@ -34,6 +40,9 @@ pub fn check(edges: &[i32], polygons: usize, sequences: usize, journal: usize) -
         return Check::Refused(Refusal::ListsDiffer);
     }
     if sequences != n {
+        return Check::Refused(Refusal::ListsDiffer);
+    }
+    if turns != n {
         return Check::Refused(Refusal::ListsDiffer);
     }
     if journal < JOURNAL_NUMBERS * n {

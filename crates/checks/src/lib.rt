@@ -14,10 +14,16 @@ ghost use Rattle.sheet.specs.Answers.{checked};
 const MOST_EDGES: usize = Edge::MOST;
 
 // What the ten checks answer. Only the lengths of the other lists matter here, and nothing is written.
-pub fn check(edges: &[i32], polygons: usize, sequences: usize, journal: usize) -> Check
-    ensures { λ r. ⌜ r ≡ checked (record { list = now (edges .entry); polygons = polygons; sequences = sequences; journal = journal }) ⌝ }
+pub fn check(
+    edges: &[i32],
+    polygons: usize,
+    sequences: usize,
+    turns: usize,
+    journal: usize,
+) -> Check
+    ensures { λ r. ⌜ r ≡ checked (record { list = now (edges .entry); polygons = polygons; sequences = sequences; turns = turns; journal = journal }) ⌝ }
 {
-    if let Check::Refused(refusal) = lengths::check(edges, polygons, sequences, journal) {
+    if let Check::Refused(refusal) = lengths::check(edges, polygons, sequences, turns, journal) {
         return Check::Refused(refusal);
     }
     if let Check::Refused(refusal) = faults::check(edges) {

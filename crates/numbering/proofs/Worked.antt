@@ -38,6 +38,7 @@ record Expected : Type 0 where
   list : List ℕ
   polygons-lent : ℕ
   sequences-lent : ℕ
+  turns-lent : ℕ
   journal-lent : ℕ
   rows : ℕ
   refusal : ℕ
@@ -54,6 +55,7 @@ lentFor w =
       list = map pos (w .list);
       polygons = replicate (w .polygons-lent) 77;
       sequences = replicate (w .sequences-lent) 77;
+      turns = w .turns-lent;
       journal = replicate (w .journal-lent) (pos 77);
       rows = replicate (numbersPerRow * w .rows) (pos 77);
     }
@@ -85,6 +87,7 @@ accepted list rows polygons peak records polygon sequence =
       list = list;
       polygons-lent = length list / numbersPerEdge;
       sequences-lent = length list / numbersPerEdge;
+      turns-lent = length list / numbersPerEdge;
       journal-lent = journalNumbersPerEdge * (length list / numbersPerEdge);
       rows = rows;
       refusal = 0;
@@ -97,12 +100,13 @@ accepted list rows polygons peak records polygon sequence =
     }
 
 -- slices of these lengths, the two lists untouched
-refusedWith : List ℕ → ℕ → ℕ → ℕ → ℕ → ℕ → ℕ → Expected
-refusedWith list polygons-lent sequences-lent journal-lent rows number place =
+refusedWith : List ℕ → ℕ → ℕ → ℕ → ℕ → ℕ → ℕ → ℕ → Expected
+refusedWith list polygons-lent sequences-lent turns-lent journal-lent rows number place =
     record {
       list = list;
       polygons-lent = polygons-lent;
       sequences-lent = sequences-lent;
+      turns-lent = turns-lent;
       journal-lent = journal-lent;
       rows = rows;
       refusal = number;
@@ -115,7 +119,7 @@ refusedWith list polygons-lent sequences-lent journal-lent rows number place =
     }
 
 refused : List ℕ → ℕ → ℕ → ℕ → Expected
-refused list rows number place = refusedWith list (length list / numbersPerEdge) (length list / numbersPerEdge) (journalNumbersPerEdge * (length list / numbersPerEdge)) rows number place
+refused list rows number place = refusedWith list (length list / numbersPerEdge) (length list / numbersPerEdge) (length list / numbersPerEdge) (journalNumbersPerEdge * (length list / numbersPerEdge)) rows number place
 
 empty : Expected
 empty = accepted [] 0 0 0 0 [] []
@@ -146,10 +150,11 @@ sheets =
     ∷ accepted oneTopAround 2 2 2 6 (1 ∷ 2 ∷ 2 ∷ 1 ∷ []) (1 ∷ 1 ∷ 0 ∷ 0 ∷ [])
     ∷ accepted touchingFilms 4 2 4 11 (2 ∷ 2 ∷ 1 ∷ 2 ∷ 2 ∷ 1 ∷ 1 ∷ []) (1 ∷ 2 ∷ 1 ∷ 3 ∷ 0 ∷ 2 ∷ 0 ∷ [])
     ∷ refused (0 ∷ 0 ∷ 4 ∷ []) 1 1 0
-    ∷ refusedWith (replicate (numbersPerEdge * 4097) 0) 0 0 0 0 2 0
-    ∷ refusedWith triangle 2 3 24 1 3 0
-    ∷ refusedWith triangle 3 4 24 1 3 0
-    ∷ refusedWith triangle 3 3 23 1 4 0
+    ∷ refusedWith (replicate (numbersPerEdge * 4097) 0) 0 0 0 0 0 2 0
+    ∷ refusedWith triangle 2 3 3 24 1 3 0
+    ∷ refusedWith triangle 3 4 3 24 1 3 0
+    ∷ refusedWith triangle 3 3 2 24 1 3 0
+    ∷ refusedWith triangle 3 3 3 23 1 4 0
     ∷ refused (0 ∷ 0 ∷ 4 ∷ 2 ∷ 0 ∷ 4 ∷ 2 ∷ 1 ∷ 1000001 ∷ 0 ∷ []) 1 5 1
     ∷ refused (0 ∷ 0 ∷ 4 ∷ 2 ∷ 0 ∷ 4 ∷ 2 ∷ 0 ∷ 0 ∷ 256 ∷ []) 1 16 1
     ∷ refused (5 ∷ 5 ∷ 5 ∷ 5 ∷ 0 ∷ []) 1 6 0

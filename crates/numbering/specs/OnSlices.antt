@@ -17,9 +17,13 @@ use Rattle.steps.specs.SweepDown.{Reading, sweepDown}
 use Rattle.journal.specs.Layout.{recordSlice}
 use Rattle.sweep.specs.Slices.{lentRoom, listEdges}
 use Rattle.sweep.specs.Lookup.{Answers, tables, reading}
-use Rattle.numbering.specs.Outcome.{Lent, Left}
+use Rattle.numbering.specs.Outcome.{Lent, Left, lent}
 use Rattle.sheet.specs.Amounts.{journalNumbersPerEdge}
 use Rattle.steps.specs.Swept.{numbersPerRecord}
+
+-- the slices of a call that passed 3: its turn list is as long as its polygon list
+abbrev pub fitted : List ℤ → List ℕ → List ℕ → List ℤ → List ℤ → Lent
+fitted list polygons sequences journal rows = lent list polygons sequences (length polygons) journal rows
 
 unfoldable pub sweptUp : Lent → Sweep (List ℤ) (List ℤ)
 sweptUp l =
@@ -54,7 +58,7 @@ sweeps l = afterSweep l (sweptUp l) (sweptUp l .state .end)
 
 -- the sweeps work in the journal's first eight numbers an edge, and what lies behind is set to zero
 abbrev pub inJournal : Lent → Lent
-inJournal l = record { list = l .list; polygons = l .polygons; sequences = l .sequences; journal = take (journalNumbersPerEdge * edgesIn (l .list)) (l .journal); rows = l .rows }
+inJournal l = record { list = l .list; polygons = l .polygons; sequences = l .sequences; turns = l .turns; journal = take (journalNumbersPerEdge * edgesIn (l .list)) (l .journal); rows = l .rows }
 
 abbrev pub wholeJournal : ℕ → Left Answer → Left Answer
 wholeJournal n x =

@@ -17,11 +17,12 @@ use Rattle.steps.specs.SweepUp.{Sweep}
 use Rattle.steps.specs.SweepDown.{naturalPart, Pair, Reading}
 use Rattle.steps.specs.Swept.{rowsIn, sweptTo, readDown}
 
--- the five slices as they are lent
+-- The five slices as they are lent. Of the turn list, which is filled from the numbers (crates/assembly), only the length matters here.
 pub record Lent : Type 0 where
   pub list : List ℤ
   pub polygons : List ℕ
   pub sequences : List ℕ
+  pub turns : ℕ
   pub journal : List ℤ
   pub rows : List ℤ
 
@@ -34,7 +35,7 @@ pub record Left (A : Type 0) : Type 0 where
   pub rows : List ℤ
 
 abbrev pub callOf : Lent → Call
-callOf l = record { list = l .list; polygons = length (l .polygons); sequences = length (l .sequences); journal = length (l .journal) }
+callOf l = record { list = l .list; polygons = length (l .polygons); sequences = length (l .sequences); turns = l .turns; journal = length (l .journal) }
 
 -- the list swept up with the rows lent, and its records read down
 unfoldable pub up : Lent → Sweep (ℕ → Row ℕ) (ℕ → Record)
@@ -66,8 +67,8 @@ unfoldable pub outcome : Lent → Left Answer
 outcome l = leaves l (answered (checked (callOf l)) (answerBy l (up l .state .end)))
 
 -- the slices by name
-abbrev pub lent : List ℤ → List ℕ → List ℕ → List ℤ → List ℤ → Lent
-lent list polygons sequences journal rows = record { list = list; polygons = polygons; sequences = sequences; journal = journal; rows = rows }
+abbrev pub lent : List ℤ → List ℕ → List ℕ → ℕ → List ℤ → List ℤ → Lent
+lent list polygons sequences turns journal rows = record { list = list; polygons = polygons; sequences = sequences; turns = turns; journal = journal; rows = rows }
 
 abbrev pub leftAs : {A : Type 0} → A → List ℕ → List ℕ → List ℤ → List ℤ → Left A
 leftAs a polygons sequences journal rows = record { answer = a; polygons = polygons; sequences = sequences; journal = journal; rows = rows }

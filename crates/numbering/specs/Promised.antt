@@ -17,7 +17,7 @@ use Rattle.numbering.specs.Outcome.{Lent, Left, callOf, outcome, leftAs}
 
 -- the same call with another row table
 abbrev pub withOtherRows : Lent → List ℤ → Lent
-withOtherRows l rows = record { list = l .list; polygons = l .polygons; sequences = l .sequences; journal = l .journal; rows = rows }
+withOtherRows l rows = record { list = l .list; polygons = l .polygons; sequences = l .sequences; turns = l .turns; journal = l .journal; rows = rows }
 
 -- rows that are always enough for a list, with the numbering that they are counted by
 pub record RowsEnough (l : Lent) : Type 0 where

@@ -6,23 +6,24 @@ use sheet::Refusal;
 ghost use mathlib.Core.Path.{_≡_};
 ghost use Prim.Native.Nat.{_*_, _/_, _≤_};
 ghost use lib.ListN.{length};
-ghost use Rattle.numbering.specs.OnSlices.{sweeps, sweepsOn};
+ghost use Rattle.numbering.specs.OnSlices.{fitted, sweeps, sweepsOn};
 ghost use Rattle.numbering.specs.Outcome.{lent, leftAs};
 ghost use Rattle.numbering.specs.Promised.{Promised};
 ghost use Rattle.sheet.specs.Amounts.{numbersPerEdge, journalNumbersPerEdge, mostEdges};
 
 // Gives every edge its polygon number and its place round the polygon, or says why not.
-// Takes every list and every size of the lent slices. Accepted: both lists filled, the records in the journal followed by zeros, the rows all zeros.
+// Takes every list and every size of the lent slices; of the turn list that a caller goes on to fill, its length, which 3 compares. Accepted: both lists filled, the records in the journal followed by zeros, the rows all zeros.
 pub fn number(
     edges: &[i32],
     polygons: &mut [u32],
     sequences: &mut [u32],
+    turns: usize,
     journal: &mut [i32],
     rows: &mut [i32],
 ) -> Answer
-    ensures { λ r. ⌜ Promised (lent (now (edges .entry)) (now (polygons .entry)) (now (sequences .entry)) (now (journal .entry)) (now (rows .entry))) (leftAs r (now (polygons .exit)) (now (sequences .exit)) (now (journal .exit)) (now (rows .exit))) ⌝ }
+    ensures { λ r. ⌜ Promised (lent (now (edges .entry)) (now (polygons .entry)) (now (sequences .entry)) turns (now (journal .entry)) (now (rows .entry))) (leftAs r (now (polygons .exit)) (now (sequences .exit)) (now (journal .exit)) (now (rows .exit))) ⌝ }
 {
-    let checked = checks::check(edges, polygons.len(), sequences.len(), journal.len());
+    let checked = checks::check(edges, polygons.len(), sequences.len(), turns, journal.len());
     match checked {
         Check::Refused(refusal) => Answer::Refused(refusal),
         Check::Passed => number_checked(edges, polygons, sequences, journal, rows),
@@ -38,7 +39,7 @@ fn number_checked(
     rows: &mut [i32],
 ) -> Answer
     requires { ⌜ (length (now edges) / numbersPerEdge ≤ mostEdges) × (journalNumbersPerEdge * (length (now edges) / numbersPerEdge) ≤ length (now journal)) ⌝ }
-    ensures { λ r. ⌜ leftAs r (now (polygons .exit)) (now (sequences .exit)) (now (journal .exit)) (now (rows .exit)) ≡ sweepsOn (lent (now (edges .entry)) (now (polygons .entry)) (now (sequences .entry)) (now (journal .entry)) (now (rows .entry))) ⌝ }
+    ensures { λ r. ⌜ leftAs r (now (polygons .exit)) (now (sequences .exit)) (now (journal .exit)) (now (rows .exit)) ≡ sweepsOn (fitted (now (edges .entry)) (now (polygons .entry)) (now (sequences .entry)) (now (journal .entry)) (now (rows .entry))) ⌝ }
 {
     let n = edges.len() / Edge::NUMBERS;
     let used = Edge::JOURNAL_NUMBERS * n;
@@ -56,7 +57,7 @@ fn sweep_both(
     rows: &mut [i32],
 ) -> Answer
     requires { ⌜ (length (now edges) / numbersPerEdge ≤ mostEdges) × (length (now journal) ≡ journalNumbersPerEdge * (length (now edges) / numbersPerEdge)) ⌝ }
-    ensures { λ r. ⌜ leftAs r (now (polygons .exit)) (now (sequences .exit)) (now (journal .exit)) (now (rows .exit)) ≡ sweeps (lent (now (edges .entry)) (now (polygons .entry)) (now (sequences .entry)) (now (journal .entry)) (now (rows .entry))) ⌝ }
+    ensures { λ r. ⌜ leftAs r (now (polygons .exit)) (now (sequences .exit)) (now (journal .exit)) (now (rows .exit)) ≡ sweeps (fitted (now (edges .entry)) (now (polygons .entry)) (now (sequences .entry)) (now (journal .entry)) (now (rows .entry))) ⌝ }
 {
     let n = edges.len() / Edge::NUMBERS;
     let swept = sweep::up::sweep_up(edges, n, journal, rows);

@@ -35,12 +35,12 @@ allRight [] = true
 allRight (w ∷ rest) = answers-with (checked (w .call)) (w .number) (w .place) && allRight rest
 
 -- a list with lists and a journal of these lengths
-lent : List ℤ → ℕ → ℕ → ℕ → Call
-lent list polygons sequences journal = record { list = list; polygons = polygons; sequences = sequences; journal = journal }
+lent : List ℤ → ℕ → ℕ → ℕ → ℕ → Call
+lent list polygons sequences turns journal = record { list = list; polygons = polygons; sequences = sequences; turns = turns; journal = journal }
 
 -- a list with what it needs: a number an edge, and a journal of 8 an edge
 fitted : List ℤ → Call
-fitted list = lent list (length list / numbersPerEdge) (length list / numbersPerEdge) (8 * (length list / numbersPerEdge))
+fitted list = lent list (length list / numbersPerEdge) (length list / numbersPerEdge) (length list / numbersPerEdge) (8 * (length list / numbersPerEdge))
 
 case : Call → ℕ → ℕ → Expected
 case call number place = record { call = call; number = number; place = place }
@@ -48,11 +48,13 @@ case call number place = record { call = call; number = number; place = place }
 calls : List Expected
 calls =
     case (fitted (map pos triangle)) 0 0
-    ∷ case (lent (map pos (0 ∷ 0 ∷ 4 ∷ [])) 7 7 0) 1 0
-    ∷ case (lent (map pos triangle) 2 3 24) 3 0
-    ∷ case (lent (map pos triangle) 3 4 24) 3 0
-    ∷ case (lent (map pos triangle) 3 4 0) 3 0
-    ∷ case (lent (map pos triangle) 3 3 23) 4 0
+    ∷ case (lent (map pos (0 ∷ 0 ∷ 4 ∷ [])) 7 7 7 0) 1 0
+    ∷ case (lent (map pos triangle) 2 3 3 24) 3 0
+    ∷ case (lent (map pos triangle) 3 4 3 24) 3 0
+    ∷ case (lent (map pos triangle) 3 3 2 24) 3 0
+    ∷ case (lent (map pos triangle) 3 3 4 24) 3 0
+    ∷ case (lent (map pos triangle) 3 3 4 0) 3 0
+    ∷ case (lent (map pos triangle) 3 3 3 23) 4 0
     ∷ case (fitted (map pos (0 ∷ 0 ∷ 4 ∷ 2 ∷ 0 ∷ 4 ∷ 2 ∷ 1 ∷ 1000001 ∷ 0 ∷ 1 ∷ 1000001 ∷ 0 ∷ 0 ∷ 0 ∷ []))) 5 1
     ∷ case (fitted (map pos (5 ∷ 5 ∷ 5 ∷ 5 ∷ 0 ∷ []))) 6 0
     ∷ case (fitted (map pos (4 ∷ 2 ∷ 1 ∷ 5 ∷ 0 ∷ 0 ∷ 0 ∷ 4 ∷ 2 ∷ 0 ∷ 1 ∷ 5 ∷ 0 ∷ 0 ∷ 0 ∷ []))) 7 1
@@ -88,7 +90,7 @@ calls =
 
 record AllWorked : Type 0 where
   right-all : allRight calls ≡ true
-  too-many : (polygons sequences journal : ℕ) → answers-with (checked (lent (replicate (numbersPerEdge * 4097) (pos 0)) polygons sequences journal)) 2 0 ≡ true
+  too-many : (polygons sequences turns journal : ℕ) → answers-with (checked (lent (replicate (numbersPerEdge * 4097) (pos 0)) polygons sequences turns journal)) 2 0 ≡ true
 
 all-worked : AllWorked
 unfolding
@@ -131,4 +133,4 @@ unfolding
     answers.differ
     answers.uneven
     answers.checked
-all-worked = record { right-all = refl; too-many = λ polygons sequences journal. refl }
+all-worked = record { right-all = refl; too-many = λ polygons sequences turns journal. refl }

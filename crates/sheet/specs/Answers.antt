@@ -29,11 +29,12 @@ use Rattle.sheet.specs.Edges.{Drawing, edgeAt, edgesIn, drawingOf}
 use Rattle.sheet.specs.Kinds.{Way, arriving, leaving, From, below, above, endOf, comes, numberAt}
 use Rattle.sheet.specs.Amounts.{numbersPerEdge, journalNumbersPerEdge, mostEdges}
 
--- What the checks see of a call: the edge list, and how many numbers long the two number lists and the journal are.
+-- What the checks see of a call: the edge list, and how many numbers long the two number lists, the turn list and the journal are.
 pub record Call : Type 0 where
   pub list : List ℤ
   pub polygons : ℕ
   pub sequences : ℕ
+  pub turns : ℕ
   pub journal : ℕ
 
 -- column 1 of the table
@@ -72,9 +73,9 @@ notWhole c = not (eqb (length (c .list) % numbersPerEdge) 0)
 unfoldable pub tooMany : Call → Bool
 tooMany c = ltb mostEdges (edgesIn (c .list))
 
--- 3: the polygon list or the sequence list has another length than one number an edge
+-- 3: the polygon list, the sequence list or (02 M-101) the turn list has another length than one number an edge
 unfoldable pub listsDiffer : Call → Bool
-listsDiffer c = not (eqb (c .polygons) (edgesIn (c .list)) && eqb (c .sequences) (edgesIn (c .list)))
+listsDiffer c = not (eqb (c .polygons) (edgesIn (c .list)) && (eqb (c .sequences) (edgesIn (c .list)) && eqb (c .turns) (edgesIn (c .list))))
 
 -- 4: the journal has less than 8 numbers an edge
 unfoldable pub journalShort : Call → Bool

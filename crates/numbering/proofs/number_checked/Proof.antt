@@ -3,7 +3,7 @@ use mathlib.Core.Path.{sym}
 use native.Mathlib.Omega.{arith}
 use denote.Ref.{now}
 use Rattle.sheet.specs.Edges.{edgesIn}
-use Rattle.numbering.specs.Outcome.{lent}
+use Rattle.numbering.specs.OnSlices.{fitted}
 use Rattle.numbering.proofs.Leaving as leaving
 use borrow.Author.Needs.{needs}
 use Rattle.numbering.proofs.number_checked.Statement.{statement}
@@ -14,7 +14,7 @@ unfolding edgesIn
 slice-aggregate-sweep-both c =
     let c₅ = c .before .before .before .before .before in
     let a = c₅ .args in
-    let l = lent (now (a .edges)) (now (a .polygons)) (now (a .sequences)) (now (a .journal)) (now (a .rows)) in
+    let l = fitted (now (a .edges)) (now (a .polygons)) (now (a .sequences)) (now (a .journal)) (now (a .rows)) in
     sym (leaving.part-long l (c₅ .pre .1))
 
 sweep-both-requires : tie.Need-sweep-both-requires
@@ -22,7 +22,7 @@ unfolding edgesIn
 sweep-both-requires c κs =
     let c₆ = c .before .before .before .before .before .before in
     let a = c₆ .args in
-    let l = lent (now (a .edges)) (now (a .polygons)) (now (a .sequences)) (now (a .journal)) (now (a .rows)) in
+    let l = fitted (now (a .edges)) (now (a .polygons)) (now (a .sequences)) (now (a .journal)) (now (a .rows)) in
     (c₆ .pre .0, leaving.part-long l (c₆ .pre .1))
 
 returns : tie.Need-returns
@@ -33,7 +33,7 @@ returns c =
     let c₉ = c₄ .before .before .before .before .before in
     let c₁₆ = c₉ .before .before .before .before .before .before .before in
     let a = c₁₆ .args in
-    let l = lent (now (a .edges)) (now (a .polygons)) (now (a .sequences)) (now (a .journal)) (now (a .rows)) in
+    let l = fitted (now (a .edges)) (now (a .polygons)) (now (a .sequences)) (now (a .journal)) (now (a .rows)) in
     leaving.behind l (c₁₆ .pre .1) (c₉ .sweep-both .ensures) (omega (arith, leaving.part-long l (c₁₆ .pre .1), c₄ .journal .given)) (c₁ .zero-from .ensures)
 
 pub number-checked-spec : {M : Type 1} → statement M

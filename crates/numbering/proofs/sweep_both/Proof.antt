@@ -4,8 +4,7 @@ use native.Mathlib.Omega.{arith}
 use denote.Ref.{now}
 use borrow.Author.Tests.{not-true, not-false}
 use Rattle.sheet.specs.Edges.{edgesIn}
-use Rattle.numbering.specs.Outcome.{lent}
-use Rattle.numbering.specs.OnSlices.{sweptUp}
+use Rattle.numbering.specs.OnSlices.{fitted, sweptUp}
 use Rattle.numbering.proofs.Leaving as leaving
 use Rattle.numbering.proofs.Leaving.{is-done-end}
 use borrow.Author.Needs.{needs}
@@ -18,7 +17,7 @@ cast-t25 c =
     let c₁₁ = c .before .before .before .before .before .before .before .before .before .before .before in
     let c₁₆ = c₁₁ .before .before .before .before .before in
     let a = c₁₆ .args in
-    let l = lent (now (a .edges)) (now (a .polygons)) (now (a .sequences)) (now (a .journal)) (now (a .rows)) in
+    let l = fitted (now (a .edges)) (now (a .polygons)) (now (a .sequences)) (now (a .journal)) (now (a .rows)) in
     record { fits = omega (arith, ap (λ w. w .edge) (c₁₁ .sweep-up .ensures .0), leaving.edge-fits l (c₁₆ .pre .0) (c₁₆ .pre .1)) }
 
 returns : tie.Need-returns
@@ -33,7 +32,7 @@ returns c =
     let c₁₁ = c₁₀ .before in
     let c₁₆ = c₁₁ .before .before .before .before .before in
     let a = c₁₆ .args in
-    let l = lent (now (a .edges)) (now (a .polygons)) (now (a .sequences)) (now (a .journal)) (now (a .rows)) in
+    let l = fitted (now (a .edges)) (now (a .polygons)) (now (a .sequences)) (now (a .journal)) (now (a .rows)) in
     leaving.when-stopped l (c₁₁ .sweep-up .ensures .0) (c₁₀ .journal .given) (sym (c₇ .is-done .ensures) ∙ not-true _ (c₆ .if1 .taken)) (c₉ .rows .given) (c₄ .zero-from .ensures) (c₁ .clear .ensures)
 
 cast-t40 : tie.Need-cast-t40
@@ -46,7 +45,7 @@ cast-t40 c =
     let c₂₁ = c₂₀ .before in
     let c₂₆ = c₂₁ .before .before .before .before .before in
     let a = c₂₆ .args in
-    let l = lent (now (a .edges)) (now (a .polygons)) (now (a .sequences)) (now (a .journal)) (now (a .rows)) in
+    let l = fitted (now (a .edges)) (now (a .polygons)) (now (a .sequences)) (now (a .journal)) (now (a .rows)) in
     record { fits = omega (arith, leaving.count-fits l (c₂₁ .sweep-up .ensures .0) (c₂₀ .journal .given) (is-done-end _ (sym (c₁₇ .is-done .ensures) ∙ not-false _ (c₁₆ .if1 .left))) (c₂₁ .sweep-up .ensures .1) (c₁₁ .sweep-down .ensures), ap (λ w. w .state .records) (c₂₁ .sweep-up .ensures .0), leaving.records-fit l (c₂₆ .pre .0) (c₂₆ .pre .1)) }
 
 cast-t41 : tie.Need-cast-t41
@@ -57,7 +56,7 @@ cast-t41 c =
     let c₂₁ = c₁₇ .before .before .before .before in
     let c₂₆ = c₂₁ .before .before .before .before .before in
     let a = c₂₆ .args in
-    let l = lent (now (a .edges)) (now (a .polygons)) (now (a .sequences)) (now (a .journal)) (now (a .rows)) in
+    let l = fitted (now (a .edges)) (now (a .polygons)) (now (a .sequences)) (now (a .journal)) (now (a .rows)) in
     let e = c₂₁ .sweep-up .ensures .0 in
     let d = is-done-end _ (sym (c₁₇ .is-done .ensures) ∙ not-false _ (c₁₆ .if1 .left)) in
     record { fits = omega (arith, ap (λ w. w .state .peak) e, leaving.peak-fits l (c₂₆ .pre .0) (c₂₆ .pre .1) (sym (ap (λ w. w .state .end) e) ∙ d)) }
@@ -76,7 +75,7 @@ returns-2 c =
     let c₂₁ = c₂₀ .before in
     let c₂₆ = c₂₁ .before .before .before .before .before in
     let a = c₂₆ .args in
-    let l = lent (now (a .edges)) (now (a .polygons)) (now (a .sequences)) (now (a .journal)) (now (a .rows)) in
+    let l = fitted (now (a .edges)) (now (a .polygons)) (now (a .sequences)) (now (a .journal)) (now (a .rows)) in
     leaving.when-done l (c₂₁ .sweep-up .ensures .0) (c₂₀ .journal .given) (is-done-end _ (sym (c₁₇ .is-done .ensures) ∙ not-false _ (c₁₆ .if1 .left))) (c₂₁ .sweep-up .ensures .1) (c₁₁ .sweep-down .ensures) (c₁₀ .rows3 .given ∙ c₁₉ .rows .given) (c₄ .zero-from2 .ensures) (c₁ .clear2 .ensures)
 
 pub sweep-both-spec : {M : Type 1} → statement M
