@@ -1,5 +1,4 @@
 -- What the statements of this crate settle, and what follows for those who call both functions.
 pub mod Accepting
 pub mod OneOutcome
-pub mod AcceptedCall
-pub mod CutInOrder
+pub mod AcceptedSheet

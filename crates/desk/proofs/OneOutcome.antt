@@ -5,14 +5,15 @@ use Prim.Native.Nat.{ℕ}
 use lib.ListN.{length}
 use Rattle.sheet.specs.TurnList.{turned}
 use Rattle.numbering.specs.Outcome.{Lent, Left}
-use Rattle.turns.proofs.OneTurnList.{one-outcome}
+use Rattle.turns.proofs.OneTurnList as turns
+use Rattle.assembly.proofs.OneOutcome as assembly
 use Rattle.desk.specs.declared.Sheet.{Sheet}
 use Rattle.desk.specs.declared.Turned.{Turned}
 use Rattle.desk.specs.Exported.{Exports, ReadTurns, byNumbers}
 
-pub one-numbering : (l : Lent) {x y : Left Sheet} → Exports l x → Exports l y → x ≡ y
-one-numbering l a b = a .same ∙ ap byNumbers (a .promised .outcome-is ∙ sym (b .promised .outcome-is)) ∙ sym (b .same)
+pub one-assembly : (l : Lent) (before : List ℕ) {x y : Left Sheet} {s t : List ℕ} → Exports l before x s → Exports l before y t → (x ≡ y) × (s ≡ t)
+one-assembly l before a b = let w = assembly.one-outcome (a .promised) (b .promised) in (a .same ∙ ap byNumbers (w .0) ∙ sym (b .same), w .1)
 
 pub one-reading : (polygons sequences before : List ℕ) {s t : List ℕ} {x y : Turned}
     → ReadTurns polygons sequences before s x → ReadTurns polygons sequences before t y → (x ≡ y) × (s ≡ t)
-one-reading polygons sequences before a b = (a .answer ∙ sym (b .answer), one-outcome polygons sequences (turned polygons sequences (length before)) before _ _ (a .turns) (b .turns))
+one-reading polygons sequences before a b = (a .answer ∙ sym (b .answer), turns.one-outcome polygons sequences (turned polygons sequences (length before)) before _ _ (a .turns) (b .turns))

@@ -12,7 +12,7 @@ use Rattle.sheet.specs.declared.TurnAnswer.the-variants as turn
 use Rattle.sheet.specs.Answers.{numberOf, placeOf}
 use Rattle.sheet.specs.TurnList.{turnNumberOf, turnPlaceOf, turned, GoodLists, TurnsAfter}
 use Rattle.numbering.specs.Outcome.{Lent, Left, leftAs}
-use Rattle.numbering.specs.Promised.{Promised}
+use Rattle.assembly.specs.Assembled.{Assembled}
 use Rattle.desk.specs.declared.Sheet.{Sheet}
 use Rattle.desk.specs.declared.Turned.{Turned}
 
@@ -27,10 +27,10 @@ turnedFrom (turn.Refused r) = record { refusal = turnNumberOf r; place = turnPla
 abbrev pub byNumbers : Left Answer → Left Sheet
 byNumbers x = leftAs (sheetFrom (x .answer)) (x .polygons) (x .sequences) (x .journal) (x .rows)
 
--- a call's exported answer: what the numbering promises of the call, by its numbers
-pub record Exports (l : Lent) (y : Left Sheet) : Type 0 where
+-- a call's exported answer, with the turn list before and after it: what is promised of the call (crates/assembly), by its numbers
+pub record Exports (l : Lent) (before : List ℕ) (y : Left Sheet) (after : List ℕ) : Type 0 where
   pub inner : Left Answer
-  pub promised : Promised l inner
+  pub promised : Assembled l before inner after
   pub same : y ≡ byNumbers inner
 
 -- the turn list as it is left, and the answer by its numbers

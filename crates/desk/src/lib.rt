@@ -2,10 +2,11 @@
 use sheet::Answer;
 use sheet::TurnAnswer;
 ghost use mathlib.Core.Path.{_≡_};
+ghost use lib.ListN.{length};
 ghost use Rattle.numbering.specs.Outcome.{lent, leftAs};
 ghost use Rattle.desk.specs.Exported.{sheetFrom, turnedFrom, Exports, ReadTurns};
 
-// What the numbering answers. Refusal 0: accepted, with place 0. Refused: the other three are 0.
+// What a sheet's call answers. Refusal 0: accepted, with place 0. Refused: the other three are 0.
 #[repr(C)]
 pub struct Sheet {
     pub refusal: u32,
@@ -23,7 +24,7 @@ pub struct Turned {
     pub polygons: u32,
 }
 
-// The answer of the numbering by its numbers.
+// The answer of a sheet's call by its numbers.
 fn sheet_of(answer: Answer) -> Sheet
     ensures { λ r. ⌜ r ≡ sheetFrom answer ⌝ }
 {
@@ -67,21 +68,24 @@ fn turned_of(answer: TurnAnswer) -> Turned
     }
 }
 
-// Numbers the edges of a list: five numbers an edge, the film last, in sweep order.
+// Numbers the edges of a list, five numbers an edge, the film last, in sweep order, and puts their places in the order in which they are cut.
 #[no_mangle]
-pub extern "C" fn outline_number(
+pub extern "C" fn outline_assemble(
     edges: &[i32],
     polygons: &mut [u32],
     sequences: &mut [u32],
+    turns: &mut [u32],
     journal: &mut [i32],
     rows: &mut [i32],
 ) -> Sheet
-    ensures { λ r. ⌜ Exports (lent (now (edges .entry)) (now (polygons .entry)) (now (sequences .entry)) (now (journal .entry)) (now (rows .entry))) (leftAs r (now (polygons .exit)) (now (sequences .exit)) (now (journal .exit)) (now (rows .exit))) ⌝ }
+    ensures { λ r. ⌜ Exports (lent (now (edges .entry)) (now (polygons .entry)) (now (sequences .entry)) (length (now (turns .entry))) (now (journal .entry)) (now (rows .entry))) (now (turns .entry)) (leftAs r (now (polygons .exit)) (now (sequences .exit)) (now (journal .exit)) (now (rows .exit))) (now (turns .exit)) ⌝ }
 {
-    sheet_of(numbering::number(edges, polygons, sequences, journal, rows))
+    sheet_of(assembly::assemble(
+        edges, polygons, sequences, turns, journal, rows,
+    ))
 }
 
-// Puts the places of all edges in order, polygon by polygon, from the numbers that the numbering gave or that were read from elsewhere.
+// Puts the places of all edges in order, polygon by polygon, from numbers that were read from elsewhere.
 #[no_mangle]
 pub extern "C" fn outline_turns(polygons: &[u32], sequences: &[u32], turns: &mut [u32]) -> Turned
     ensures { λ r. ⌜ ReadTurns (now (polygons .entry)) (now (sequences .entry)) (now (turns .entry)) (now (turns .exit)) r ⌝ }

@@ -10,8 +10,7 @@ use borrow.Author.Tests.{lt-ltb}
 use Rattle.laws.proofs.Deciding.{lt-or-le, eq-or-ne}
 use Rattle.sheet.specs.Edges.{Drawing, topHeight}
 use Rattle.sheet.specs.Kinds.{below, leaving, comes, above}
-use Rattle.sheet.specs.Joining.{Follows}
-use Rattle.sheet.specs.Sound.{InOutline, itself, onwards}
+use Rattle.sheet.specs.Joining.{Follows, InOutline, itself, onwards}
 use Rattle.sheet.specs.Numbering.{Numbering}
 use Rattle.sheet.proofs.Checked.{Checked, tops-rise, Joins, joins}
 

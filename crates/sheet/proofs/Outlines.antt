@@ -9,8 +9,7 @@ use native.Mathlib.Omega.{arith}
 use Rattle.laws.proofs.Counting.{count-all}
 use Rattle.laws.proofs.Pigeonhole.{pigeon}
 use Rattle.sheet.specs.Edges.{Drawing}
-use Rattle.sheet.specs.Joining.{Follows}
-use Rattle.sheet.specs.Sound.{InOutline, itself, onwards}
+use Rattle.sheet.specs.Joining.{Follows, InOutline, itself, onwards}
 use Rattle.sheet.specs.Numbering.{Numbering}
 use Rattle.sheet.proofs.Checked.{Checked, joins}
 use Rattle.sheet.proofs.Leads.{step-back, lead, lead-is, lead-outline}

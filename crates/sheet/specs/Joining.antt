@@ -22,3 +22,8 @@ pub record Follows (sh : Drawing) (e f : ℕ) : Type 0 where
   pub meet : sh .tail f ≡ sh .head e
   pub rule : (comes sh leaving f ≡ goesOn (sh .apart (sh .head e)) (comes sh arriving e))
       ⊎ ((k : ℕ) → k < sh .edges → sh .tail k ≡ sh .head e → comes sh leaving k ≡ goesOn (sh .apart (sh .head e)) (comes sh arriving e) → ⊥)
+
+-- 01 Points 6.1: an edge is in the outline of e where joins lead from e to it
+pub data InOutline (sh : Drawing) (e : ℕ) : ℕ → Type 0 where
+  itself : InOutline sh e e
+  onwards : {f g : ℕ} → InOutline sh e f → Follows sh f g → InOutline sh e g

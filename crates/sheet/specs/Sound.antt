@@ -1,4 +1,4 @@
--- Words of the paper that laws and contracts of inner crates use: sweep order, a sound list, the edges of an outline, which lists a turn list is read from.
+-- Words of the paper that laws and contracts of inner crates use: sweep order, a sound list, which lists a turn list is read from.
 -- The promises of the exported calls do not rest on them.
 use Prim.Native.Nat.{ℕ, _+_, _≤_, _<_}
 use mathlib.Core.Path.{_≡_}
@@ -8,7 +8,6 @@ use Rattle.sheet.specs.declared.TurnAnswer.{TurnAnswer}
 use Rattle.sheet.specs.declared.TurnAnswer.the-variants.{Accepted}
 use Rattle.sheet.specs.Edges.{Drawing, topHeight}
 use Rattle.sheet.specs.Kinds.{Way, arriving, leaving, endOf, comes, numberAt}
-use Rattle.sheet.specs.Joining.{Follows}
 use Rattle.sheet.specs.TurnList.{GoodLists}
 
 -- 01 Points 3.3: along the list the tops never fall
@@ -19,11 +18,6 @@ SweepOrder sh = (e : ℕ) → e + 1 < sh .edges → topHeight sh e ≤ topHeight
 pub record Sound (sh : Drawing) : Type 0 where
   pub single : (w : Way) (e f : ℕ) → e < sh .edges → f < sh .edges → endOf sh w e ≡ endOf sh w f → comes sh w e ≡ comes sh w f → e ≡ f
   pub even : (p : ℕ) → numberAt sh arriving p ≡ numberAt sh leaving p
-
--- 01 Points 6.1: an edge is in the outline of e where joins lead from e to it
-pub data InOutline (sh : Drawing) (e : ℕ) : ℕ → Type 0 where
-  itself : InOutline sh e e
-  onwards : {f g : ℕ} → InOutline sh e f → Follows sh f g → InOutline sh e g
 
 -- 01: an answer accepts exactly these, each with its number of polygons. `turned` does (proofs/ExactlyAccepted.antt).
 abbrev pub AcceptsExactly : List ℕ → List ℕ → ℕ → TurnAnswer → Type 0

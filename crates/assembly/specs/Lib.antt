@@ -1,0 +1,2 @@
+-- What the call promises; Laying is for this crate's own functions.
+pub mod Assembled
