@@ -10,6 +10,7 @@ pub mod Leads
 pub mod Outlines
 pub mod OneNumbering
 pub mod ExactlyAccepted
+pub mod Counted
 pub mod Trying
 pub mod RowsEnough
 pub mod Drawn

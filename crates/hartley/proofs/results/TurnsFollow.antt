@@ -22,6 +22,7 @@ use Rattle.sheet.specs.Passing.{outlineSize}
 use Rattle.sheet.specs.TurnList.{TurnList}
 use Rattle.sheet.proofs.Checked.{Checked, Joins, joins}
 use Rattle.sheet.proofs.Leads.{step-back, before-follows}
+use Rattle.sheet.proofs.Counted.{sequence-counted}
 use Rattle.hartley.proofs.bounds.LengthsAndLevels.{count-every}
 
 module _ {sh : Drawing} (K : Checked sh) {polygon sequence : ℕ → ℕ} {polygons : ℕ} (A : Numbering sh polygon sequence polygons) where
@@ -38,10 +39,7 @@ module _ {sh : Drawing} (K : Checked sh) {polygon sequence : ℕ → ℕ} {polyg
 
   pub sequence-below : (e : ℕ) → e < sh .edges → sequence e < outlineSize sh polygon (polygon e)
   unfolding outlineSize
-  sequence-below e l =
-      let p = pigeon (λ k x. (polygon x ≡ polygon e) × (sequence x ≡ k)) (λ i j x a b. sym (a .1) ∙ b .1) (λ k. true) (λ x. eqb (polygon x) (polygon e)) (suc (sequence e)) (sh .edges)
-      (λ k h t. let v = back-to (sequence e - k) e l k (omega arith) in (v .0, v .1, eq-eqb _ _ (v .2), (v .2, v .3))) in
-      omega (arith, p, count-every (suc (sequence e)))
+  sequence-below e l = sequence-counted (record { polygon = polygon; sequence = sequence; edges = sh .edges }) e l (λ k h. back-to (sequence e - k) e l k (omega arith))
 
   -- and every one below the number of the polygon's edges
   pub sequence-met : (k i : ℕ) → i < outlineSize sh polygon k → (e : ℕ) × (e < sh .edges) × (polygon e ≡ k) × (sequence e ≡ i)
