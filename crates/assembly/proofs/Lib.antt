@@ -1,3 +1,7 @@
--- What the three lists are for those who cut by them.
+-- The laws of the assembly, each after those that it rests on.
+pub mod Places
+pub mod Tables
+pub mod Placing
+pub mod Passes
 pub mod CutInOrder
 pub mod OneOutcome

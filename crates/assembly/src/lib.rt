@@ -1,4 +1,7 @@
 // One call for a whole sheet: the edges are numbered, and the turn list is laid from their numbers (02, M-101).
+mod laying;
+
+use laying::lay_turns;
 use sheet::Answer;
 ghost use lib.ListN.{length};
 ghost use Rattle.numbering.specs.Outcome.{lent, leftAs};
@@ -22,6 +25,7 @@ pub fn assemble(
             peak,
             records,
         } => {
+            lay_turns(polygons, sequences, count as usize, turns);
             Answer::Accepted {
                 polygons: count,
                 peak,

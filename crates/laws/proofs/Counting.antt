@@ -54,6 +54,12 @@ count-or p q r (suc n) h = omega (arith, count-or p q r n (λ i l. h i (omega ar
 pub count-implies : (p q : ℕ → Bool) (n : ℕ) → ((i : ℕ) → i < n → p i ≡ true → q i ≡ true) → count p n ≤ count q n
 count-implies p q n h = omega (arith, count-or p q (λ i. false) n (λ i l e. rw (h i l e)), count-none (λ i. false) n (λ i l. refl))
 
+-- one of two tests passes exactly where p does, and never both
+pub count-parts : (p q r : ℕ → Bool) (n : ℕ) → ((i : ℕ) → i < n → bit (p i) ≡ bit (q i) + bit (r i)) → count p n ≡ count q n + count r n
+unfolding count
+count-parts p q r zero h = refl
+count-parts p q r (suc n) h = omega (arith, h n (omega arith), count-parts p q r n (λ i l. h i (omega arith)))
+
 -- the numbers below a, and those from a on
 pub count-split : (p : ℕ → Bool) (a n : ℕ) → count p (a + n) ≡ count p a + count (λ i. p (a + i)) n
 unfolding count

@@ -2,6 +2,7 @@
 pub mod Deciding
 pub mod Counting
 pub mod Between
+pub mod Summing
 pub mod First
 pub mod Lowest
 pub mod Further
