@@ -4,4 +4,5 @@ pub mod Tables
 pub mod Placing
 pub mod Passes
 pub mod CutInOrder
+pub mod Assembling
 pub mod OneOutcome

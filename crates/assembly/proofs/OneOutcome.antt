@@ -1,5 +1,5 @@
 -- What is promised settles the answer and every number in the slices: two outcomes of one call are the same.
-use mathlib.Core.Path.{_≡_, sym, ap, _∙_}
+use mathlib.Core.Path.{_≡_, refl, sym, _∙_, subst}
 use mathlib.Core.List.{List}
 use Prim.Native.Nat.{ℕ}
 use Rattle.sheet.specs.declared.Answer.{Answer}
@@ -17,4 +17,4 @@ module _ {l : Lent} {before : List ℕ} {x : Left Answer} where
   pub one-outcome : {y : Left Answer} {s t : List ℕ} → Assembled l before x s → Assembled l before y t → (x ≡ y) × (s ≡ t)
   one-outcome {t = t} a b =
       let q = a .numbered .outcome-is ∙ sym (b .numbered .outcome-is) in
-      (q, one-turns a (rw ← q at b) (x .answer) refl)
+      (q, one-turns a (subst (λ (z : Left Answer). Assembled l before z t) (sym q) b) (x .answer) refl)

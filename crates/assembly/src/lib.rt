@@ -19,19 +19,12 @@ pub fn assemble(
 ) -> Answer
     ensures { λ r. ⌜ Assembled (lent (now (edges .entry)) (now (polygons .entry)) (now (sequences .entry)) (length (now (turns .entry))) (now (journal .entry)) (now (rows .entry))) (now (turns .entry)) (leftAs r (now (polygons .exit)) (now (sequences .exit)) (now (journal .exit)) (now (rows .exit))) (now (turns .exit)) ⌝ }
 {
-    match numbering::number(edges, polygons, sequences, turns.len(), journal, rows) {
-        Answer::Accepted {
-            polygons: count,
-            peak,
-            records,
-        } => {
-            lay_turns(polygons, sequences, count as usize, turns);
-            Answer::Accepted {
-                polygons: count,
-                peak,
-                records,
-            }
-        }
-        Answer::Refused(refusal) => Answer::Refused(refusal),
+    let answer = numbering::number(edges, polygons, sequences, turns.len(), journal, rows);
+    if let Answer::Accepted {
+        polygons: count,
+        ..
+    } = answer {
+        lay_turns(polygons, sequences, count as usize, turns);
     }
+    answer
 }

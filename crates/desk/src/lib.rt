@@ -80,9 +80,7 @@ pub extern "C" fn outline_assemble(
 ) -> Sheet
     ensures { λ r. ⌜ Exports (lent (now (edges .entry)) (now (polygons .entry)) (now (sequences .entry)) (length (now (turns .entry))) (now (journal .entry)) (now (rows .entry))) (now (turns .entry)) (leftAs r (now (polygons .exit)) (now (sequences .exit)) (now (journal .exit)) (now (rows .exit))) (now (turns .exit)) ⌝ }
 {
-    sheet_of(assembly::assemble(
-        edges, polygons, sequences, turns, journal, rows,
-    ))
+    sheet_of(assembly::assemble(edges, polygons, sequences, turns, journal, rows))
 }
 
 // Puts the places of all edges in order, polygon by polygon, from numbers that were read from elsewhere.
