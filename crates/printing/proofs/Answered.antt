@@ -29,16 +29,17 @@ module _ {x : Left Answer} {a : Answer} {polygons sequences : List ℕ} {journal
   refused-so q s t h = rw (← e, q, ← s, ← t) h
 
 module _ {l y : List ℕ} {r : ℕ} where
-  pub edges-so : (x : Left Answer) {m n : ℕ} → m ≡ n → Laid l 0 (outcomeLines m x) y r → Laid l 0 (outcomeLines n x) y r
-  edges-so x e h = rw e at h
+  -- as many lines as edges, and a turn list of so many numbers
+  pub edges-so : (x : ℕ → Left Answer) {m n t : ℕ} → m ≡ n → t ≡ n → Laid l 0 (outcomeLines m (x t)) y r → Laid l 0 (outcomeLines n (x n)) y r
+  edges-so x {m} {n} e q h = subst (λ (k : ℕ). Laid l 0 (outcomeLines k (x n)) y r) e (subst (λ (k : ℕ). Laid l 0 (outcomeLines m (x k)) y r) q h)
 
   -- the first numbers of lists of zeros
-  pub zeros-so : (n : ℕ) (list : List ℤ) → n ≤ 512 → Laid l 0 (outcomeLines n (outcome (lent list (take n (replicate 512 0)) (take n (replicate 512 0)) (take (journalNumbersPerEdge * n) (replicate 4096 (pos 0))) (replicate 2048 (pos 0))))) y r → Laid l 0 (outcomeLines n (outcome (lentFor n list))) y r
+  pub zeros-so : (n : ℕ) (list : List ℤ) → n ≤ 512 → Laid l 0 (outcomeLines n (outcome (lent list (take n (replicate 512 0)) (take n (replicate 512 0)) n (take (journalNumbersPerEdge * n) (replicate 4096 (pos 0))) (replicate 2048 (pos 0))))) y r → Laid l 0 (outcomeLines n (outcome (lentFor n list))) y r
   zeros-so n list h a =
       subst
-      (λ (lists : List ℕ). Laid l 0 (outcomeLines n (outcome (lent list lists lists (replicate (journalNumbersPerEdge * n) (pos 0)) (replicate 2048 (pos 0))))) y r)
+      (λ (lists : List ℕ). Laid l 0 (outcomeLines n (outcome (lent list lists lists n (replicate (journalNumbersPerEdge * n) (pos 0)) (replicate 2048 (pos 0))))) y r)
       (take-replicate n 512 0 h)
       (subst
-      (λ (journal : List ℤ). Laid l 0 (outcomeLines n (outcome (lent list (take n (replicate 512 0)) (take n (replicate 512 0)) journal (replicate 2048 (pos 0))))) y r)
+      (λ (journal : List ℤ). Laid l 0 (outcomeLines n (outcome (lent list (take n (replicate 512 0)) (take n (replicate 512 0)) n journal (replicate 2048 (pos 0))))) y r)
       (take-replicate (journalNumbersPerEdge * n) 4096 (pos 0) (omega arith))
       a)

@@ -63,7 +63,7 @@ outcomeLines n x = answerLines n (x .answer) (x .polygons) (x .sequences)
 
 -- 01 Program 5: 256 rows are lent; with them lists of one number an edge and a journal of eight. All of them hold zeros.
 abbrev pub lentFor : ℕ → List ℤ → Lent
-lentFor n list = lent list (replicate n 0) (replicate n 0) (replicate (journalNumbersPerEdge * n) (pos 0)) (replicate (numbersPerRow * 256) (pos 0))
+lentFor n list = lent list (replicate n 0) (replicate n 0) n (replicate (journalNumbersPerEdge * n) (pos 0)) (replicate (numbersPerRow * 256) (pos 0))
 
 -- an edge's five numbers in their order
 abbrev pub fiveNumbers : Edge → List ℤ

@@ -62,8 +62,17 @@ fn put_edges(edges: &[i32], n: usize, out: &mut [u8]) -> usize
 {
     let mut polygons = [0u32; LIST];
     let mut sequences = [0u32; LIST];
+    let mut turns = [0u32; LIST];
     let mut journal = [0i32; JOURNAL];
-    put_parts(edges, n, &mut polygons, &mut sequences, &mut journal, out)
+    put_parts(
+        edges,
+        n,
+        &mut polygons,
+        &mut sequences,
+        &mut turns,
+        &mut journal,
+        out,
+    )
 }
 
 // As many numbers of each slice as n edges want.
@@ -72,11 +81,12 @@ fn put_parts(
     n: usize,
     polygons: &mut [u32],
     sequences: &mut [u32],
+    turns: &mut [u32],
     journal: &mut [i32],
     out: &mut [u8],
 ) -> usize
-    requires { ⌜ (n ≤ 512) × (numbersPerEdge * n ≤ length (now edges)) × (n ≤ length (now polygons)) × (n ≤ length (now sequences)) × (journalNumbersPerEdge * n ≤ length (now journal)) ⌝ }
-    ensures { λ r. ⌜ Laid (now (out .entry)) 0 (outcomeLines n (outcome (lent (take (numbersPerEdge * n) (now (edges .entry))) (take n (now (polygons .entry))) (take n (now (sequences .entry))) (take (journalNumbersPerEdge * n) (now (journal .entry))) (replicate 2048 (pos 0))))) (now (out .exit)) r ⌝ }
+    requires { ⌜ (n ≤ 512) × (numbersPerEdge * n ≤ length (now edges)) × (n ≤ length (now polygons)) × (n ≤ length (now sequences)) × (n ≤ length (now turns)) × (journalNumbersPerEdge * n ≤ length (now journal)) ⌝ }
+    ensures { λ r. ⌜ Laid (now (out .entry)) 0 (outcomeLines n (outcome (lent (take (numbersPerEdge * n) (now (edges .entry))) (take n (now (polygons .entry))) (take n (now (sequences .entry))) n (take (journalNumbersPerEdge * n) (now (journal .entry))) (replicate 2048 (pos 0))))) (now (out .exit)) r ⌝ }
 {
     let numbers = Edge::NUMBERS * n;
     let records = 8 * n;
@@ -84,6 +94,7 @@ fn put_parts(
         &edges[..numbers],
         &mut polygons[..n],
         &mut sequences[..n],
+        &mut turns[..n],
         &mut journal[..records],
         out,
     )
@@ -94,14 +105,15 @@ fn put_numbered(
     edges: &[i32],
     polygons: &mut [u32],
     sequences: &mut [u32],
+    turns: &mut [u32],
     journal: &mut [i32],
     out: &mut [u8],
 ) -> usize
     requires { ⌜ (length (now polygons) ≤ 512) × (length (now sequences) ≡ length (now polygons)) ⌝ }
-    ensures { λ r. ⌜ Laid (now (out .entry)) 0 (outcomeLines (length (now (polygons .entry))) (outcome (lent (now (edges .entry)) (now (polygons .entry)) (now (sequences .entry)) (now (journal .entry)) (replicate 2048 (pos 0))))) (now (out .exit)) r ⌝ }
+    ensures { λ r. ⌜ Laid (now (out .entry)) 0 (outcomeLines (length (now (polygons .entry))) (outcome (lent (now (edges .entry)) (now (polygons .entry)) (now (sequences .entry)) (length (now (turns .entry))) (now (journal .entry)) (replicate 2048 (pos 0))))) (now (out .exit)) r ⌝ }
 {
     let mut rows = [0i32; ROWS];
-    match numbering::number(edges, polygons, sequences, journal, &mut rows) {
+    match assembly::assemble(edges, polygons, sequences, turns, journal, &mut rows) {
         Answer::Accepted {
             polygons: count,
             peak,

@@ -6,14 +6,14 @@ use Rattle.desk.proofs.outline_assemble.Tie as tie
 
 returns : tie.Need-returns
 returns c =
-    let n = c .before .before .before .before .before .before .before .assemble in
+    let n = c .before .before .before .before .before .before .before .before .before .assemble in
     record {
       inner = _;
       promised = n .ensures;
-      same = λ i. leftAs (c .sheet-of .ensures i) (n .last .1 .0) (n .last .1 .1 .0) (n .last .1 .1 .1 .0) (n .last .1 .1 .1 .1 .0);
+      same = λ i. leftAs (c .sheet-of .ensures i) (n .last .1 .0) (n .last .1 .1 .0) (n .last .1 .1 .1 .1 .0) (n .last .1 .1 .1 .1 .1 .0);
     }
 
 pub outline-assemble-spec : {M : Type 1} → statement M
 outline-assemble-spec =
     tie.close
-    (tie.spec (search needs) (search needs) (search needs) (search needs) (search needs) (search needs) returns)
+    (tie.spec (search needs) (search needs) (search needs) (search needs) (search needs) (search needs) (search needs) returns)
