@@ -3,7 +3,7 @@
 //! length. `include/outline.h` declares the same for C.
 #![allow(unsafe_code)]
 
-/// The answer to a numbering call. Accepted: refusal and place are 0. Refused:
+/// The answer to `outline_assemble`. Accepted: refusal and place are 0. Refused:
 /// the other three are 0.
 #[repr(C)]
 pub struct Sheet {
@@ -14,7 +14,7 @@ pub struct Sheet {
     pub records: u32,
 }
 
-/// The answer to a turn list call. Accepted: refusal and place are 0. Refused:
+/// The answer to `outline_turns`. Accepted: refusal and place are 0. Refused:
 /// the number of polygons is 0.
 #[repr(C)]
 pub struct Turned {
@@ -24,13 +24,15 @@ pub struct Turned {
 }
 
 extern "C" {
-    fn outline_number(
+    fn outline_assemble(
         edges: *const i32,
         edges_length: usize,
         polygons: *mut u32,
         polygons_length: usize,
         sequences: *mut u32,
         sequences_length: usize,
+        turns: *mut u32,
+        turns_length: usize,
         journal: *mut i32,
         journal_length: usize,
         rows: *mut i32,
@@ -47,11 +49,12 @@ extern "C" {
     ) -> Turned;
 }
 
-/// Numbers a list on lent slices of any lengths.
-pub fn number(
+/// Numbers a list and puts its edges in turn, on lent slices of any lengths.
+pub fn assemble(
     edges: &[i32],
     polygons: &mut [u32],
     sequences: &mut [u32],
+    turns: &mut [u32],
     journal: &mut [i32],
     rows: &mut [i32],
 ) -> Sheet {
@@ -60,13 +63,15 @@ pub fn number(
     // state and calls nothing back. The borrows make the slices valid and
     // disjoint for the call.
     unsafe {
-        outline_number(
+        outline_assemble(
             edges.as_ptr(),
             edges.len(),
             polygons.as_mut_ptr(),
             polygons.len(),
             sequences.as_mut_ptr(),
             sequences.len(),
+            turns.as_mut_ptr(),
+            turns.len(),
             journal.as_mut_ptr(),
             journal.len(),
             rows.as_mut_ptr(),
@@ -77,7 +82,7 @@ pub fn number(
 
 /// Reads the turn list from two lists of any lengths.
 pub fn turns(polygons: &[u32], sequences: &[u32], turns: &mut [u32]) -> Turned {
-    // SAFETY: as for `number`.
+    // SAFETY: as for `assemble`.
     unsafe {
         outline_turns(
             polygons.as_ptr(),

@@ -1,8 +1,9 @@
 //! The outline engine for Rust programs. It takes the directed edges of a
 //! drawing in sweep order and gives each edge the number of the closed outline
-//! that it belongs to and its place round that outline, or says what is wrong
-//! with the list. The engine itself is proved and comes as a static library;
-//! this crate is a thin safe face over it.
+//! that it belongs to and its place round that outline, and lists the edges in
+//! the order in which they are cut, or says what is wrong with the list. The
+//! engine itself is proved and comes as a static library; this crate is a thin
+//! safe face over it.
 //!
 //! An edge is five numbers: tail x, tail y, head x, head y, film. Edges meet only
 //! within a film, so neighbours of two films may share whole sides. The whole
@@ -20,15 +21,15 @@
 //! # Ok::<(), outline::Refusal>(())
 //! ```
 //!
-//! [`number()`] and [`turns()`] are the engine's two calls on slices that the
-//! caller lends, with nothing allocated; [`rows_enough`] says how many rows to
-//! lend. [`text`] reads sheets as the program `outline` does, and [`picture`]
-//! draws them.
+//! [`assemble()`] is the same on slices that the caller lends, with nothing
+//! allocated; [`rows_enough`] says how many rows to lend. [`turns()`] puts the
+//! edges of a numbering that was read from elsewhere in turn. [`text`] reads
+//! sheets as the program `outline` does, and [`picture`] draws them.
 
 #![deny(unsafe_code, unsafe_op_in_unsafe_fn, missing_docs)]
 
+mod assemble;
 mod engine;
-mod number;
 mod outlines;
 pub mod picture;
 mod refusal;
@@ -36,7 +37,7 @@ mod rows;
 pub mod text;
 mod turns;
 
-pub use number::{number, Answer};
+pub use assemble::{assemble, Answer};
 pub use outlines::Outlines;
 pub use refusal::Refusal;
 pub use rows::rows_enough;

@@ -1,9 +1,8 @@
-//! The numbering of a list, owned: the room is sized and lent here.
+//! The numbers and turns of a list, owned: the room is sized and lent here.
 
-use crate::number::{number, Answer};
+use crate::assemble::{assemble, Answer};
 use crate::refusal::Refusal;
 use crate::rows::rows_enough;
-use crate::turns::{turns, TurnAnswer};
 use crate::{JOURNAL_NUMBERS_PER_EDGE, NUMBERS_PER_EDGE, NUMBERS_PER_ROW};
 
 /// The outlines of a list of edges: for each edge its outline and its place
@@ -40,7 +39,7 @@ pub struct Outlines {
 }
 
 impl Outlines {
-    /// Numbers a list of edges with room enough, and reads the turn list.
+    /// Numbers a list of edges and puts them in turn, with room enough.
     pub fn of(edges: &[i32]) -> Result<Outlines, Refusal> {
         let count = edges.len() / NUMBERS_PER_EDGE;
         let mut outlines = Outlines {
@@ -52,17 +51,24 @@ impl Outlines {
             peak: 0,
             records: 0,
         };
-        outlines.number(edges)?;
-        outlines.turn()?;
+        outlines.assemble(edges)?;
+        outlines.find_starts();
         outlines.read_films(edges);
         Ok(outlines)
     }
 
-    fn number(&mut self, edges: &[i32]) -> Result<(), Refusal> {
+    fn assemble(&mut self, edges: &[i32]) -> Result<(), Refusal> {
         let mut journal = vec![0; JOURNAL_NUMBERS_PER_EDGE * self.polygons.len()];
         let mut rows = vec![0; NUMBERS_PER_ROW * rows_enough(edges)];
-        let (polygons, sequences) = (&mut self.polygons, &mut self.sequences);
-        match number(edges, polygons, sequences, &mut journal, &mut rows) {
+        let answer = assemble(
+            edges,
+            &mut self.polygons,
+            &mut self.sequences,
+            &mut self.turns,
+            &mut journal,
+            &mut rows,
+        );
+        match answer {
             Answer::Accepted { peak, records, .. } => {
                 self.peak = peak;
                 self.records = records;
@@ -72,16 +78,10 @@ impl Outlines {
         }
     }
 
-    fn turn(&mut self) -> Result<(), Refusal> {
-        if let TurnAnswer::Refused(refusal) =
-            turns(&self.polygons, &self.sequences, &mut self.turns)
-        {
-            return Err(refusal);
-        }
+    fn find_starts(&mut self) {
         let first = |at: &usize| self.sequences[self.turns[*at] as usize] == 0;
         self.starts = (0..self.turns.len()).filter(first).collect();
         self.starts.push(self.turns.len());
-        Ok(())
     }
 
     /// All edges of an outline are of one film: that of its first edge.

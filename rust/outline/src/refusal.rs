@@ -23,8 +23,8 @@ use std::fmt;
 /// `TooManyEdges`, `ListsDiffer` was `ListLength`, `JournalShort` was
 /// `ShortJournal`, `PastRange` was `PastTheRange`, `TopFalls` was `OutOfOrder`,
 /// `Repeated` was `KindTaken`, `Uneven` was `OpenEnd`, `NoRow` was `NoFreeRow`,
-/// `NoPolygon` was `PolygonZero` and `PairRepeated` was `PairTaken`. Numbers,
-/// places and sentences are as they were.
+/// `NoPolygon` was `PolygonZero` and `PairRepeated` was `PairTaken`. Numbers
+/// and places are as they were.
 #[derive(Clone, Copy, PartialEq, Eq, Hash, Debug)]
 #[non_exhaustive]
 pub enum Refusal {
@@ -32,7 +32,7 @@ pub enum Refusal {
     NotWhole,
     /// 2: the list has more than 4,096 edges.
     TooMany,
-    /// 3: the polygon list or the sequence list is not one number an edge.
+    /// 3: the polygon, the sequence or the turn list is not one number an edge.
     ListsDiffer,
     /// 4: the journal is shorter than eight numbers an edge.
     JournalShort,
@@ -189,7 +189,7 @@ impl Refusal {
             Refusal::NotWhole => "the list ends in the middle of an edge",
             Refusal::TooMany => "the list has more than 4,096 edges",
             Refusal::ListsDiffer => {
-                "the polygon list or the sequence list has not one number for each edge"
+                "the polygon list, the sequence list or the turn list has not one number for each edge"
             }
             Refusal::JournalShort => "the journal is too short",
             Refusal::PastRange { .. } => {
@@ -229,7 +229,7 @@ impl Refusal {
                 "give every edge five numbers: tail x, tail y, head x, head y, film"
             }
             Refusal::TooMany => "split the sheet",
-            Refusal::ListsDiffer => "make both as long as there are edges",
+            Refusal::ListsDiffer => "make all three as long as there are edges",
             Refusal::JournalShort => "lend it eight numbers or more for each edge",
             Refusal::PastRange { .. } => "move or shrink the drawing",
             Refusal::EqualEnds { .. } => "leave it out",

@@ -15,10 +15,11 @@ pub enum TurnAnswer {
     Refused(Refusal),
 }
 
-/// Fills the turn list: the edges' places in the list, outline by outline, each
-/// outline in the order of its sequence numbers. The two lists that are read
-/// may come from [`number`](crate::number()) or from elsewhere; all three have
-/// one number an edge. A refusal leaves the turn list as it was.
+/// Fills the turn list of a numbering that was read from elsewhere: the edges'
+/// places in the list, outline by outline, each outline in the order of its
+/// sequence numbers. All three lists have one number an edge. A refusal leaves
+/// the turn list as it was. Who has the edges themselves need not call this:
+/// [`assemble()`](crate::assemble()) fills the turn list too.
 ///
 /// ```
 /// use outline::{turns, TurnAnswer};

@@ -2,7 +2,7 @@
 //! another machine does not run those in the comments.
 
 use outline::text::{read_sheet, write_sheet};
-use outline::{number, picture, rows_enough, turns, Answer, Outlines, Refusal, TurnAnswer};
+use outline::{assemble, picture, rows_enough, turns, Answer, Outlines, Refusal, TurnAnswer};
 
 const TRIANGLE: [i32; 15] = [0, 0, 4, 2, 7, 4, 2, 1, 5, 7, 1, 5, 0, 0, 7];
 
@@ -18,12 +18,13 @@ fn the_whole_list_in_all_the_numbers_out() -> Result<(), Refusal> {
 
 #[test]
 fn on_lent_slices() {
-    let (mut polygons, mut sequences) = ([0; 3], [0; 3]);
+    let (mut polygons, mut sequences, mut turns) = ([0; 3], [0; 3], [0; 3]);
     let (mut journal, mut rows) = ([0; 24], [0; 8]);
-    let answer = number(
+    let answer = assemble(
         &TRIANGLE,
         &mut polygons,
         &mut sequences,
+        &mut turns,
         &mut journal,
         &mut rows,
     );
@@ -34,6 +35,7 @@ fn on_lent_slices() {
     };
     assert_eq!(answer, accepted);
     assert_eq!((polygons, sequences), ([1, 1, 1], [1, 2, 0]));
+    assert_eq!(turns, [2, 0, 1]);
 }
 
 #[test]

@@ -3,7 +3,7 @@
 
 use std::collections::BTreeSet;
 
-use outline::{number, turns, Answer, Outlines, Refusal, TurnAnswer};
+use outline::{assemble, turns, Answer, Outlines, Refusal, TurnAnswer};
 
 const TRIANGLE: [i32; 15] = [0, 0, 4, 2, 7, 4, 2, 1, 5, 7, 1, 5, 0, 0, 7];
 
@@ -89,12 +89,13 @@ fn a_refusal_is_an_error() {
     assert!(refuse().unwrap_err().to_string().starts_with("the list "));
 }
 
-/// The answer with so many numbers in the lists, the journal and the rows.
-fn answer(edges: &[i32], lists: usize, journal: usize, rows: usize) -> Answer {
-    number(
+/// The answer with so many numbers in the three lists, the journal and the rows.
+fn answer(edges: &[i32], lists: [usize; 3], journal: usize, rows: usize) -> Answer {
+    assemble(
         edges,
-        &mut vec![0; lists],
-        &mut vec![0; lists],
+        &mut vec![0; lists[0]],
+        &mut vec![0; lists[1]],
+        &mut vec![0; lists[2]],
         &mut vec![0; journal],
         &mut vec![0; rows],
     )
@@ -102,21 +103,24 @@ fn answer(edges: &[i32], lists: usize, journal: usize, rows: usize) -> Answer {
 
 #[test]
 fn each_refusal_of_the_engine_comes_as_its_case() {
-    let triangle = |journal, rows| answer(&TRIANGLE, 3, journal, rows);
+    let one_edge = |edge: &[i32]| answer(edge, [1; 3], 8, 8);
+    let triangle = |lists, journal, rows| answer(&TRIANGLE, lists, journal, rows);
     let cases = [
-        (answer(&[0; 6], 1, 8, 8), Refusal::NotWhole),
-        (answer(&[0; 5 * 4097], 1, 8, 8), Refusal::TooMany),
-        (answer(&TRIANGLE, 2, 24, 8), Refusal::ListsDiffer),
-        (triangle(23, 8), Refusal::JournalShort),
+        (one_edge(&[0; 6]), Refusal::NotWhole),
+        (one_edge(&[0; 5 * 4097]), Refusal::TooMany),
+        (triangle([2, 3, 3], 24, 8), Refusal::ListsDiffer),
+        (triangle([3, 2, 3], 24, 8), Refusal::ListsDiffer),
+        (triangle([3, 3, 2], 24, 8), Refusal::ListsDiffer),
+        (triangle([3; 3], 23, 8), Refusal::JournalShort),
         (
-            answer(&[0, 0, 1_000_001, 0, 256], 1, 8, 8),
+            one_edge(&[0, 0, 1_000_001, 0, 256]),
             Refusal::PastRange { edge: 0 },
         ),
         (
-            answer(&[0, 0, 0, 0, 256], 1, 8, 8),
+            one_edge(&[0, 0, 0, 0, 256]),
             Refusal::FilmPastRange { edge: 0 },
         ),
-        (triangle(24, 7), Refusal::NoRow { edge: 0 }),
+        (triangle([3; 3], 24, 7), Refusal::NoRow { edge: 0 }),
     ];
     for (answer, refusal) in cases {
         assert_eq!(answer, Answer::Refused(refusal));
