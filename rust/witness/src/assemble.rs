@@ -1,16 +1,17 @@
-//! The whole numbering call on lent slices, by "The answer sheet" of document
-//! 01: the checks, the two sweeps, and what every slice holds afterwards.
-//! How a chain lies in its row is nowhere to be seen when the call is over, so
-//! the rows are kept elsewhere and the lent ones only counted and zeroed.
+//! Numbers and turns in one call on lent slices, by "The answer sheet" of
+//! document 01 and request M-101: the checks, the two sweeps, the turn list, and
+//! what every slice holds afterwards. How a chain lies in its row is nowhere to
+//! be seen when the call is over, so the rows are kept elsewhere and the lent
+//! ones only counted and zeroed.
 
 use crate::checks::{checked, Lengths, Refusal};
-use crate::geometry::Edge;
-use crate::steps::{sweep_down, sweep_up, Swept, NUMBERS_PER_RECORD, NUMBERS_PER_ROW};
+use crate::steps::{sweep_down, sweep_up, NUMBERS_PER_RECORD, NUMBERS_PER_ROW};
+use crate::turns::in_turn;
 
-/// What a numbering call answers.
+/// What [`assemble`] answers.
 #[derive(Clone, Copy, PartialEq, Eq, Hash, Debug)]
 pub enum Answer {
-    /// The list is numbered.
+    /// The list is numbered and its edges are put in turn.
     Accepted {
         /// How many outlines.
         polygons: u32,
@@ -23,17 +24,19 @@ pub enum Answer {
     Refused(Refusal),
 }
 
-/// Numbers a list of edges, or says why not.
-pub fn number(
+/// Numbers a list of edges and puts them in turn, or says why not.
+pub fn assemble(
     edges: &[i32],
     polygons: &mut [u32],
     sequences: &mut [u32],
+    turns: &mut [u32],
     journal: &mut [i32],
     rows: &mut [i32],
 ) -> Answer {
     let lengths = Lengths {
         polygons: polygons.len(),
         sequences: sequences.len(),
+        turns: turns.len(),
         journal: journal.len(),
     };
     let edges = match checked(edges, lengths) {
@@ -42,20 +45,10 @@ pub fn number(
     };
     journal.fill(0);
     rows.fill(0);
-    match sweep_up(&edges, rows.len() / NUMBERS_PER_ROW) {
-        Ok(swept) => fill_lists(&edges, &swept, polygons, sequences, journal),
-        Err(place) => Answer::Refused(Refusal::at(10, place)),
-    }
-}
-
-/// Copies the journal and the numbers into the lent slices.
-fn fill_lists(
-    edges: &[Edge],
-    swept: &Swept,
-    polygons: &mut [u32],
-    sequences: &mut [u32],
-    journal: &mut [i32],
-) -> Answer {
+    let swept = match sweep_up(&edges, rows.len() / NUMBERS_PER_ROW) {
+        Ok(swept) => swept,
+        Err(place) => return Answer::Refused(Refusal::at(10, place)),
+    };
     let parts = journal.chunks_exact_mut(NUMBERS_PER_RECORD);
     for (part, record) in parts.zip(&swept.records) {
         part.copy_from_slice(&record.numbers());
@@ -63,6 +56,7 @@ fn fill_lists(
     let numbering = sweep_down(&swept.records, edges.len());
     polygons.copy_from_slice(&numbering.polygons);
     sequences.copy_from_slice(&numbering.sequences);
+    turns.copy_from_slice(&in_turn(polygons, sequences));
     Answer::Accepted {
         polygons: numbering.count,
         peak: swept.peak as u32,

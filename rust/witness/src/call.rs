@@ -3,13 +3,13 @@
 //! is made with any function that has the engine's shape, so that two engines
 //! can be given the same call and their outcomes compared.
 
+use crate::assemble::Answer;
 use crate::checks::JOURNAL_NUMBERS_PER_EDGE;
 use crate::geometry::NUMBERS_PER_EDGE;
-use crate::number::Answer;
 use crate::steps::NUMBERS_PER_ROW;
 use crate::turns::TurnAnswer;
 
-/// A numbering call: the list, the lengths of the four lent slices, and the
+/// An assembling call: the list, the lengths of the five lent slices, and the
 /// number that all of them are filled with beforehand.
 #[derive(Clone, PartialEq, Eq, Debug)]
 pub struct Call {
@@ -19,6 +19,8 @@ pub struct Call {
     pub polygons: usize,
     /// The length of the sequence list.
     pub sequences: usize,
+    /// The length of the turn list.
+    pub turns: usize,
     /// The length of the journal, in numbers.
     pub journal: usize,
     /// The length of the rows slice, in numbers.
@@ -34,6 +36,7 @@ impl Call {
             edges,
             polygons: 0,
             sequences: 0,
+            turns: 0,
             journal: 0,
             rows: NUMBERS_PER_ROW * rows,
             fill: 77,
@@ -42,27 +45,30 @@ impl Call {
         call
     }
 
-    /// Makes the two lists and the journal as long as the edge list asks.
+    /// Makes the three lists and the journal as long as the edge list asks.
     pub fn fit(&mut self) {
         let edges = self.edges.len() / NUMBERS_PER_EDGE;
         self.polygons = edges;
         self.sequences = edges;
+        self.turns = edges;
         self.journal = JOURNAL_NUMBERS_PER_EDGE * edges;
     }
 
     /// Makes the call and keeps all that can be seen of it.
-    pub fn outcome<F>(&self, number: F) -> Outcome
+    pub fn outcome<F>(&self, assemble: F) -> Outcome
     where
-        F: FnOnce(&[i32], &mut [u32], &mut [u32], &mut [i32], &mut [i32]) -> Answer,
+        F: FnOnce(&[i32], &mut [u32], &mut [u32], &mut [u32], &mut [i32], &mut [i32]) -> Answer,
     {
         let mut polygons = vec![self.fill as u32; self.polygons];
         let mut sequences = vec![self.fill as u32; self.sequences];
+        let mut turns = vec![self.fill as u32; self.turns];
         let mut journal = vec![self.fill; self.journal];
         let mut rows = vec![self.fill; self.rows];
-        let answer = number(
+        let answer = assemble(
             &self.edges,
             &mut polygons,
             &mut sequences,
+            &mut turns,
             &mut journal,
             &mut rows,
         );
@@ -70,13 +76,14 @@ impl Call {
             answer,
             polygons,
             sequences,
+            turns,
             journal,
             rows,
         }
     }
 }
 
-/// What is to be seen after a numbering call.
+/// What is to be seen after an assembling call.
 #[derive(Clone, PartialEq, Eq, Debug)]
 pub struct Outcome {
     /// The answer.
@@ -85,6 +92,8 @@ pub struct Outcome {
     pub polygons: Vec<u32>,
     /// The sequence list.
     pub sequences: Vec<u32>,
+    /// The turn list.
+    pub turns: Vec<u32>,
     /// The journal.
     pub journal: Vec<i32>,
     /// The rows.

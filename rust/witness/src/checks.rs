@@ -1,5 +1,6 @@
-//! Refusals 1 to 9 of document 01's answer sheet and 16 of request M-100, each
-//! with its place, in the order in which the papers try them: the lengths; then
+//! Refusals 1 to 9 of document 01's answer sheet, 3 as request M-101 reads it,
+//! and 16 of request M-100, each with its place, in the order in which the
+//! papers try them: the lengths; then
 //! edge by edge the range, the film, equal ends and the sweep order; then
 //! soundness over the whole list. Any list of any length is taken.
 
@@ -10,7 +11,7 @@ use crate::geometry::{read_edges, Edge, Point, Site, MOST_EDGES, NUMBERS_PER_EDG
 /// How many journal numbers must be lent for each edge.
 pub const JOURNAL_NUMBERS_PER_EDGE: usize = 8;
 
-/// The refusals of a numbering call, in the order in which they are tried; 5 to
+/// The refusals of an assembling call, in the order in which they are tried; 5 to
 /// 7 with 16 edge by edge, in that order within an edge.
 pub const IN_ORDER: [u32; 11] = [1, 2, 3, 4, 5, 16, 6, 7, 8, 9, 10];
 
@@ -41,6 +42,8 @@ pub struct Lengths {
     pub polygons: usize,
     /// Of the sequence list.
     pub sequences: usize,
+    /// Of the turn list.
+    pub turns: usize,
     /// Of the journal.
     pub journal: usize,
 }
@@ -62,7 +65,7 @@ fn check_lengths(numbers: usize, lengths: Lengths) -> Result<(), Refusal> {
         Err(Refusal::at(1, 0))
     } else if edges > MOST_EDGES {
         Err(Refusal::at(2, 0))
-    } else if lengths.polygons != edges || lengths.sequences != edges {
+    } else if [lengths.polygons, lengths.sequences, lengths.turns] != [edges; 3] {
         Err(Refusal::at(3, 0))
     } else if lengths.journal < JOURNAL_NUMBERS_PER_EDGE * edges {
         Err(Refusal::at(4, 0))

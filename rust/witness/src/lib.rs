@@ -1,32 +1,33 @@
-//! A witness for the outline engine: the rules of document 01, and of request
-//! M-100 for films, written a second time, for clearness only, so that the
-//! engine can be held against it.
-//! `checks`, `steps`, `number`, `turns` and `text` answer as the engine must;
+//! A witness for the outline engine: the rules of document 01, and of requests
+//! M-100 for films and M-101 for numbers and turns in one call, written a second
+//! time, for clearness only, so that the engine can be held against it.
+//! `checks`, `steps`, `assemble`, `turns` and `text` answer as the engine must;
 //! `declared` says what the numbers are without any sweep; `call`, `vectors`,
 //! `worked` and `generate` are what tests of either engine need.
 //!
 //! ```
-//! use witness::{number, Answer};
+//! use witness::{assemble, Answer};
 //!
 //! let triangle = [0, 0, 4, 2, 0, 4, 2, 1, 5, 0, 1, 5, 0, 0, 0];
-//! let (mut polygons, mut sequences) = ([0; 3], [0; 3]);
+//! let (mut polygons, mut sequences, mut turns) = ([0; 3], [0; 3], [0; 3]);
 //! let (mut journal, mut rows) = ([0; 24], [0; 8]);
-//! let answer = number(&triangle, &mut polygons, &mut sequences, &mut journal, &mut rows);
+//! let lists = (&mut polygons, &mut sequences, &mut turns);
+//! let answer = assemble(&triangle, lists.0, lists.1, lists.2, &mut journal, &mut rows);
 //! let (count, peak, records) = (1, 1, 4);
 //! assert_eq!(answer, Answer::Accepted { polygons: count, peak, records });
-//! assert_eq!((polygons, sequences), ([1, 1, 1], [1, 2, 0]));
+//! assert_eq!((polygons, sequences, turns), ([1, 1, 1], [1, 2, 0], [2, 0, 1]));
 //! ```
 
 #![forbid(unsafe_code)]
 #![warn(missing_docs)]
 
+pub mod assemble;
 pub mod call;
 pub mod checks;
 pub mod declared;
 pub mod generate;
 pub mod geometry;
 pub mod json;
-pub mod number;
 pub mod numbering;
 pub mod steps;
 pub mod text;
@@ -34,7 +35,7 @@ pub mod turns;
 pub mod vectors;
 pub mod worked;
 
+pub use assemble::{assemble, Answer};
 pub use checks::Refusal;
-pub use number::{number, Answer};
 pub use text::outline;
 pub use turns::{turns, TurnAnswer};

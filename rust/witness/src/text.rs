@@ -4,9 +4,9 @@
 //! A line is well formed when single spaces part its five numbers and a newline
 //! ends it.
 
+use crate::assemble::{assemble, Answer};
 use crate::checks::{Refusal, JOURNAL_NUMBERS_PER_EDGE};
 use crate::geometry::NUMBERS_PER_EDGE;
-use crate::number::{number, Answer};
 use crate::steps::NUMBERS_PER_ROW;
 
 /// The most bytes that the program reads.
@@ -83,9 +83,17 @@ fn read_number(text: &[u8]) -> Option<i32> {
 fn print_numbers(list: &[i32]) -> String {
     let edges = list.len() / NUMBERS_PER_EDGE;
     let (mut polygons, mut sequences) = (vec![0; edges], vec![0; edges]);
+    let mut turns = vec![0; edges];
     let mut journal = vec![0; JOURNAL_NUMBERS_PER_EDGE * edges];
     let mut rows = vec![0; NUMBERS_PER_ROW * PROGRAM_ROWS];
-    let answer = number(list, &mut polygons, &mut sequences, &mut journal, &mut rows);
+    let answer = assemble(
+        list,
+        &mut polygons,
+        &mut sequences,
+        &mut turns,
+        &mut journal,
+        &mut rows,
+    );
     match answer {
         Answer::Refused(refusal) => print_refusal(refusal),
         Answer::Accepted {

@@ -24,13 +24,16 @@ pub fn turns(polygons: &[u32], sequences: &[u32], turns: &mut [u32]) -> TurnAnsw
     if let Err(refusal) = check_turns(polygons, sequences, turns.len()) {
         return TurnAnswer::Refused(refusal);
     }
-    let mut places: Vec<usize> = (0..turns.len()).collect();
-    places.sort_by_key(|place| (polygons[*place], sequences[*place]));
-    for (turn, place) in turns.iter_mut().zip(places) {
-        *turn = place as u32;
-    }
+    turns.copy_from_slice(&in_turn(polygons, sequences));
     let polygons = polygons.iter().copied().max().unwrap_or(0);
     TurnAnswer::Accepted { polygons }
+}
+
+/// The edges' places, sorted by polygon number and then by sequence number.
+pub fn in_turn(polygons: &[u32], sequences: &[u32]) -> Vec<u32> {
+    let mut places: Vec<u32> = (0..polygons.len() as u32).collect();
+    places.sort_by_key(|place| (polygons[*place as usize], sequences[*place as usize]));
+    places
 }
 
 /// Refusals 11 to 14, each tried over the whole list before the next.

@@ -6,17 +6,21 @@
 use std::collections::BTreeMap;
 use std::str::FromStr;
 
+use crate::assemble::Answer;
 use crate::call::{Call, Outcome, TurnCall, TurnOutcome};
 use crate::checks::Refusal;
+use crate::geometry::NUMBERS_PER_EDGE;
 use crate::json::string_bytes;
-use crate::number::Answer;
-use crate::turns::TurnAnswer;
+use crate::turns::{in_turn, TurnAnswer};
 
 /// The cases of document 01 itself, with four numbers an edge.
 const BASE: &str = include_str!("../../vectors/base.txt");
 
 /// The cases of request M-100, with a film for every edge.
 const FILMS: &str = include_str!("../../vectors/M-100.txt");
+
+/// The cases of request M-101, with the turn list in the same call.
+const ONE_CALL: &str = include_str!("../../vectors/M-101.txt");
 
 /// One case of a vector file.
 #[derive(Clone, PartialEq, Eq, Debug)]
@@ -30,8 +34,8 @@ pub struct Case {
 /// What a case does.
 #[derive(Clone, PartialEq, Eq, Debug)]
 pub enum Work {
-    /// A numbering call and its outcome.
-    Number(Call, Outcome),
+    /// An assembling call and its outcome.
+    Assemble(Call, Outcome),
     /// A turn list call and its outcome.
     Turns(TurnCall, TurnOutcome),
     /// The program's input and output.
@@ -56,10 +60,11 @@ pub fn read_cases(text: &str) -> Result<Vec<Case>, String> {
 }
 
 /// All cases of the repository's vector files: those of document 01, read in
-/// film 0, and those of request M-100.
+/// film 0, and those of requests M-100 and M-101.
 pub fn all_cases() -> Result<Vec<Case>, String> {
     let base = read_cases(BASE)?.into_iter().map(in_film_0);
-    Ok(base.chain(read_cases(FILMS)?).collect())
+    let requests = [read_cases(FILMS)?, read_cases(ONE_CALL)?];
+    Ok(base.chain(requests.into_iter().flatten()).collect())
 }
 
 /// A case of document 01 with every edge in film 0, which leaves what must come
@@ -67,11 +72,24 @@ pub fn all_cases() -> Result<Vec<Case>, String> {
 /// stay such.
 fn in_film_0(mut case: Case) -> Case {
     match &mut case.work {
-        Work::Number(call, _) => call.edges = numbers_in_film_0(&call.edges),
+        Work::Assemble(call, outcome) => {
+            call.edges = numbers_in_film_0(&call.edges);
+            lend_turns(call, outcome);
+        }
         Work::Program(input, _) => *input = lines_in_film_0(input),
         Work::Turns(..) => {}
     }
     case
+}
+
+/// Lends a turn list of one number an edge to a case from before M-101. A
+/// refusal leaves it, and else it is that of the numbers that the case gives.
+fn lend_turns(call: &mut Call, outcome: &mut Outcome) {
+    call.turns = call.edges.len() / NUMBERS_PER_EDGE;
+    outcome.turns = match outcome.answer {
+        Answer::Accepted { .. } => in_turn(&outcome.polygons, &outcome.sequences),
+        Answer::Refused(_) => vec![call.fill as u32; call.turns],
+    };
 }
 
 /// Each four numbers with a film after them.
@@ -127,6 +145,7 @@ impl<'a> Block<'a> {
     fn work(&self, operation: &str) -> Result<Work, String> {
         match operation {
             "number" => self.number(),
+            "both" => self.both(),
             "turns" => self.turns(),
             "program" => Ok(Work::Program(
                 string_bytes(self.rest("input")?)?,
@@ -136,11 +155,27 @@ impl<'a> Block<'a> {
         }
     }
 
+    /// A case from before M-101.
     fn number(&self) -> Result<Work, String> {
+        let (mut call, mut outcome) = self.without_turns()?;
+        lend_turns(&mut call, &mut outcome);
+        Ok(Work::Assemble(call, outcome))
+    }
+
+    fn both(&self) -> Result<Work, String> {
+        let (mut call, mut outcome) = self.without_turns()?;
+        call.turns = self.one("lent turn")?;
+        outcome.turns = self.slice("out turn", call.turns, call.fill as u32)?;
+        Ok(Work::Assemble(call, outcome))
+    }
+
+    /// An assembling call and its outcome, in all but the turn list.
+    fn without_turns(&self) -> Result<(Call, Outcome), String> {
         let call = Call {
             edges: self.list("in edges")?,
             polygons: self.one("lent poly")?,
             sequences: self.one("lent seq")?,
+            turns: 0,
             journal: self.one("lent journal")?,
             rows: self.one("lent rows")?,
             fill: self.one("fill")?,
@@ -150,10 +185,11 @@ impl<'a> Block<'a> {
             answer: self.answer()?,
             polygons: self.slice("out poly", call.polygons, fill as u32)?,
             sequences: self.slice("out seq", call.sequences, fill as u32)?,
+            turns: Vec::new(),
             journal: self.slice("out journal", call.journal, fill)?,
             rows: self.slice("out rows", call.rows, fill)?,
         };
-        Ok(Work::Number(call, outcome))
+        Ok((call, outcome))
     }
 
     fn turns(&self) -> Result<Work, String> {
@@ -173,7 +209,7 @@ impl<'a> Block<'a> {
         Ok(Work::Turns(call, TurnOutcome { answer, turns }))
     }
 
-    /// The answer to a numbering call.
+    /// The answer to an assembling call.
     fn answer(&self) -> Result<Answer, String> {
         if let Some(refusal) = self.refusal()? {
             return Ok(Answer::Refused(refusal));

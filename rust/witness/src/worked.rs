@@ -2,11 +2,11 @@
 //! what request M-100 says of films, with the answers and numbers that the
 //! rules give them. Any engine can be held against them.
 
+use crate::assemble::Answer;
 use crate::call::{Call, Outcome};
 use crate::checks::Refusal;
 use crate::generate::Sheet;
 use crate::geometry::Edge;
-use crate::number::Answer;
 use crate::steps::NUMBERS_PER_RECORD;
 
 /// An edge's polygon number and sequence number.
@@ -54,11 +54,11 @@ impl Worked {
     ///
     /// # Panics
     /// When they are not.
-    pub fn check<F>(&self, number: F)
+    pub fn check<F>(&self, assemble: F)
     where
-        F: FnOnce(&[i32], &mut [u32], &mut [u32], &mut [i32], &mut [i32]) -> Answer,
+        F: FnOnce(&[i32], &mut [u32], &mut [u32], &mut [u32], &mut [i32], &mut [i32]) -> Answer,
     {
-        let outcome = self.call.outcome(number);
+        let outcome = self.call.outcome(assemble);
         assert_eq!(outcome.answer, self.answer, "{}", self.name);
         match self.answer {
             Answer::Accepted { records, .. } => self.check_filled(&outcome, records),
@@ -66,11 +66,16 @@ impl Worked {
         }
     }
 
-    /// The lists hold the pairs, and there are zeros after the records.
+    /// Two lists hold the pairs, the third the places in which these rise, and
+    /// there are zeros after the records.
     fn check_filled(&self, outcome: &Outcome, records: u32) {
         let lists = outcome.polygons.iter().zip(&outcome.sequences);
         let pairs: Vec<Pair> = lists.map(|(one, other)| (*one, *other)).collect();
         assert_eq!(pairs, self.pairs, "{}", self.name);
+        let mut rising = self.pairs.clone();
+        rising.sort_unstable();
+        let turned = outcome.turns.iter().map(|place| pairs[*place as usize]);
+        assert_eq!(turned.collect::<Vec<Pair>>(), rising, "{}", self.name);
         let after = &outcome.journal[NUMBERS_PER_RECORD * records as usize..];
         let zeros = |slice: &[i32]| slice.iter().all(|number| *number == 0);
         assert!(zeros(after) && zeros(&outcome.rows), "{}", self.name);
@@ -81,10 +86,10 @@ impl Worked {
     fn check_left(&self, outcome: &Outcome, refusal: u32) {
         let fill = self.call.fill;
         let left = if refusal == 10 { 0 } else { fill };
-        let lists = outcome.polygons.iter().chain(&outcome.sequences);
+        let lists = [&outcome.polygons, &outcome.sequences, &outcome.turns];
         let rest = outcome.journal.iter().chain(&outcome.rows);
-        let untouched = lists.copied().all(|number| number == fill as u32);
-        assert!(untouched, "{}", self.name);
+        let untouched = |list: &Vec<u32>| list.iter().all(|number| *number == fill as u32);
+        assert!(lists.into_iter().all(untouched), "{}", self.name);
         assert!(rest.copied().all(|number| number == left), "{}", self.name);
     }
 }

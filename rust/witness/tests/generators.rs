@@ -20,6 +20,7 @@ fn is_sound(sheet: &Sheet) -> bool {
     let lengths = Lengths {
         polygons: edges,
         sequences: edges,
+        turns: edges,
         journal: 8 * edges,
     };
     checked(sheet, lengths).is_ok()
@@ -30,7 +31,7 @@ fn vector(id: &str) -> Sheet {
     let cases = all_cases().unwrap();
     let case = cases.into_iter().find(|case| case.id == id).unwrap();
     match case.work {
-        Work::Number(call, _) => call.edges,
+        Work::Assemble(call, _) => call.edges,
         Work::Program(input, _) => read_list(&input).unwrap(),
         Work::Turns(..) => panic!("{} has no edges", id),
     }

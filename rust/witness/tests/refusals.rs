@@ -10,14 +10,14 @@ use witness::checks::{BY_EDGE, IN_ORDER};
 use witness::declared;
 use witness::generate::{any, damage, damaged, Random};
 use witness::geometry::read_edges;
-use witness::{number, Answer, Refusal};
+use witness::{assemble, Answer, Refusal};
 
 type At = (i64, i64);
 
 /// An edge: its tail, its head and its film.
 type Ends = (At, At, i64);
 
-/// What the table of document 01, with M-100, says of a call, row by row;
+/// What the table of document 01, with M-100 and M-101, says of a call, row by row;
 /// nothing when none of the refusals before 10 is due.
 fn stated(call: &Call) -> Option<(u32, u32)> {
     let edges = call.edges.len() / 5;
@@ -27,7 +27,7 @@ fn stated(call: &Call) -> Option<(u32, u32)> {
     if edges >= 4097 {
         return Some((2, 0));
     }
-    if call.polygons != edges || call.sequences != edges {
+    if call.polygons != edges || call.sequences != edges || call.turns != edges {
         return Some((3, 0));
     }
     if call.journal < 8 * edges {
@@ -98,7 +98,7 @@ fn is_open(list: &[Ends], edge: usize) -> bool {
 
 /// Checks the answer to a call and gives its refusal's number, 0 if accepted.
 fn check(call: &Call, seed: u64) -> u32 {
-    let outcome = call.outcome(number);
+    let outcome = call.outcome(assemble);
     let due = stated(call);
     let refused = match outcome.answer {
         Answer::Refused(refusal) => Some((refusal.number, refusal.place)),
@@ -107,10 +107,10 @@ fn check(call: &Call, seed: u64) -> u32 {
     let of_the_sweep = refused.filter(|refusal| refusal.0 == 10);
     assert_eq!(refused, due.or(of_the_sweep), "seed {}: {:?}", seed, call);
     if refused.is_some() {
-        let filled = vec![call.fill as u32; call.polygons];
-        assert_eq!(outcome.polygons, filled, "seed {}", seed);
-        let filled = vec![call.fill as u32; call.sequences];
-        assert_eq!(outcome.sequences, filled, "seed {}", seed);
+        let filled = |length: usize| vec![call.fill as u32; length];
+        assert_eq!(outcome.polygons, filled(call.polygons), "seed {}", seed);
+        assert_eq!(outcome.sequences, filled(call.sequences), "seed {}", seed);
+        assert_eq!(outcome.turns, filled(call.turns), "seed {}", seed);
     }
     let left = if due.is_some() { call.fill } else { 0 };
     if due.is_some() || of_the_sweep.is_some() {
@@ -163,7 +163,7 @@ fn undamaged_calls_get_none() {
 
 #[test]
 fn faults_within_one_edge() {
-    let refusal = |edges: &[i32]| match Call::fitting(edges.to_vec(), 9).outcome(number).answer {
+    let refusal = |edges: &[i32]| match Call::fitting(edges.to_vec(), 9).outcome(assemble).answer {
         Answer::Refused(Refusal { number, place }) => (number, place),
         Answer::Accepted { .. } => (0, 0),
     };
@@ -256,7 +256,7 @@ fn every_list_of_up_to_four_edges_on_four_points() {
             let got = check(&call, 0);
             *met.entry(got).or_insert(0) += 1;
             if got == 0 {
-                let outcome = call.outcome(number);
+                let outcome = call.outcome(assemble);
                 let declared = declared::numbering(&read_edges(&call.edges));
                 assert_eq!(outcome.polygons, declared.polygons);
                 assert_eq!(outcome.sequences, declared.sequences);

@@ -10,7 +10,7 @@ use witness::generate::{any, comb, in_films, layered, mosaic, patchwork, pixels,
 use witness::generate::{some_films, spiral, squares, turned_round, walks, Random, Seed, Sheet};
 use witness::geometry::{read_edges, Edge, Point, Site};
 use witness::steps::{sweep_down, sweep_up};
-use witness::{number, turns, Answer, TurnAnswer};
+use witness::{assemble, turns, Answer, TurnAnswer};
 
 /// What was met with, over many sheets, so that no test passes for want of
 /// sheets that could fail it.
@@ -62,7 +62,7 @@ impl Met {
 fn check_sheet(random: &mut Random, sheet: &Sheet, met: &mut Met) {
     let edges = read_edges(sheet);
     let rows = declared::sufficient_rows(&edges);
-    let outcome = Call::fitting(sheet.clone(), rows).outcome(number);
+    let outcome = Call::fitting(sheet.clone(), rows).outcome(assemble);
     let (polygons, peak, records) = match outcome.answer {
         Answer::Accepted {
             polygons,
@@ -85,6 +85,9 @@ fn check_numbers(edges: &[Edge], outcome: &Outcome, polygons: usize) {
     let declared = declared::numbering(edges);
     assert_eq!(outcome.polygons, declared.polygons);
     assert_eq!(outcome.sequences, declared.sequences);
+    let outlines = declared::outlines(edges).concat();
+    let turns = outlines.into_iter().map(|place| place as u32);
+    assert!(turns.eq(outcome.turns.iter().copied()));
     assert_eq!(polygons, declared.count as usize);
     let swept = sweep_up(edges, usize::MAX).unwrap();
     let mut journal: Vec<i32> = swept.records.iter().flat_map(|r| r.numbers()).collect();
@@ -96,16 +99,17 @@ fn check_numbers(edges: &[Edge], outcome: &Outcome, polygons: usize) {
 
 /// As many rows as the peak do, with nothing changed; fewer never do.
 fn check_rows(random: &mut Random, sheet: &Sheet, outcome: &Outcome, peak: usize, met: &mut Met) {
-    let just_enough = Call::fitting(sheet.clone(), peak).outcome(number);
+    let just_enough = Call::fitting(sheet.clone(), peak).outcome(assemble);
     assert_eq!(just_enough.answer, outcome.answer);
     assert_eq!(just_enough.polygons, outcome.polygons);
     assert_eq!(just_enough.sequences, outcome.sequences);
+    assert_eq!(just_enough.turns, outcome.turns);
     assert_eq!(just_enough.journal, outcome.journal);
     if peak == 0 {
         return;
     }
     for rows in [peak - 1, random.below(peak)] {
-        let refused = Call::fitting(sheet.clone(), rows).outcome(number);
+        let refused = Call::fitting(sheet.clone(), rows).outcome(assemble);
         let place = edge_that_opens(&outcome.journal, rows as i32);
         let refusal = witness::Refusal { number: 10, place };
         assert_eq!(refused.answer, Answer::Refused(refusal));
@@ -113,6 +117,7 @@ fn check_rows(random: &mut Random, sheet: &Sheet, outcome: &Outcome, peak: usize
         assert!(zeros(&refused.journal) && zeros(&refused.rows));
         let untouched = |list: &[u32]| list.iter().all(|number| *number == 77);
         assert!(untouched(&refused.polygons) && untouched(&refused.sequences));
+        assert!(untouched(&refused.turns));
         met.refused_rows += 1;
     }
 }
@@ -133,7 +138,8 @@ fn edge_that_opens(journal: &[i32], rows: i32) -> u32 {
     panic!("no row {} in the journal", rows);
 }
 
-/// The turn list lays each outline's edges end to end.
+/// The turn list of the two lists is the one that the call gave, and lays each
+/// outline's edges end to end.
 fn check_turns(edges: &[Edge], outcome: &Outcome, polygons: usize) {
     let call = TurnCall::fitting(outcome.polygons.clone(), outcome.sequences.clone());
     let turned = call.outcome(turns);
@@ -141,6 +147,7 @@ fn check_turns(edges: &[Edge], outcome: &Outcome, polygons: usize) {
         polygons: polygons as u32,
     };
     assert_eq!(turned.answer, accepted);
+    assert_eq!(turned.turns, outcome.turns);
     let polygon = |at: usize| outcome.polygons[turned.turns[at] as usize];
     let edge = |at: usize| edges[turned.turns[at] as usize];
     let mut first = 0;
@@ -261,7 +268,7 @@ fn films_of_outlines_that_do_not_matter() {
         let rows = declared::sufficient_rows(&read_edges(&one_film));
         let films = some_films(random);
         let several = in_films(random, &one_film, &films);
-        let outcome = |sheet: Sheet| Call::fitting(sheet, rows).outcome(number);
+        let outcome = |sheet: Sheet| Call::fitting(sheet, rows).outcome(assemble);
         assert_eq!(outcome(one_film), outcome(several));
     }
 }

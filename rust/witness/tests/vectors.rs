@@ -4,14 +4,15 @@
 
 use std::collections::BTreeMap;
 
+use witness::call::Outcome;
 use witness::json::string_bytes;
 use witness::vectors::{all_cases, read_cases, Case, Work};
-use witness::{number, outline, turns};
+use witness::{assemble, outline, turns, Answer};
 
 fn check(case: &Case) {
     match &case.work {
-        Work::Number(call, expected) => {
-            assert_eq!(&call.outcome(number), expected, "case {}", case.id);
+        Work::Assemble(call, expected) => {
+            assert_eq!(&call.outcome(assemble), expected, "case {}", case.id);
         }
         Work::Turns(call, expected) => {
             assert_eq!(&call.outcome(turns), expected, "case {}", case.id);
@@ -32,7 +33,7 @@ fn every_case() {
     let mut met = BTreeMap::new();
     for case in &cases {
         let operation = match case.work {
-            Work::Number(..) => "number",
+            Work::Assemble(..) => "assemble",
             Work::Turns(..) => "turns",
             Work::Program(..) => "program",
         };
@@ -40,12 +41,15 @@ fn every_case() {
         *met.entry((file, operation)).or_insert(0) += 1;
     }
     let expected = [
-        (("base", "number"), 79),
+        (("base", "assemble"), 79),
         (("base", "program"), 25),
         (("base", "turns"), 16),
-        (("M-100", "number"), 101),
+        (("M-100", "assemble"), 101),
         (("M-100", "program"), 53),
         (("M-100", "turns"), 40),
+        (("M-101", "assemble"), 101),
+        (("M-101", "program"), 49),
+        (("M-101", "turns"), 40),
     ];
     assert_eq!(met, BTreeMap::from(expected));
 }
@@ -92,12 +96,48 @@ fn files_that_are_not_understood() {
 #[test]
 fn a_changed_case_is_noticed() {
     let cases = all_cases().unwrap();
-    let triangle = cases.iter().find(|case| case.id == "base/fixed/1");
-    let mut triangle = triangle.unwrap().clone();
-    check(&triangle);
-    if let Work::Number(_, expected) = &mut triangle.work {
-        let last = expected.journal.len() - 1;
-        expected.journal[last] = 1;
+    let changes: [fn(&mut Outcome); 3] = [
+        |expected| expected.polygons[0] = 2,
+        |expected| expected.turns.swap(0, 1),
+        |expected| expected.journal.iter_mut().for_each(|number| *number += 1),
+    ];
+    for id in ["base/fixed/1", "M-101/fixed/2"] {
+        let case = cases.iter().find(|case| case.id == id).unwrap();
+        check(case);
+        for change in changes {
+            let mut changed = case.clone();
+            if let Work::Assemble(_, expected) = &mut changed.work {
+                change(expected);
+            }
+            assert!(std::panic::catch_unwind(|| check(&changed)).is_err());
+        }
     }
-    assert!(std::panic::catch_unwind(|| check(&triangle)).is_err());
+}
+
+/// A case from before M-101 is lent a turn list of one number an edge, to be left
+/// or to hold the places in which the numbers of the case rise.
+#[test]
+fn older_cases_are_lent_a_turn_list() {
+    let (mut filled, mut left) = (0, 0);
+    for case in all_cases().unwrap() {
+        let (call, expected) = match case.work {
+            Work::Assemble(call, expected) if !case.id.starts_with("M-101") => (call, expected),
+            _ => continue,
+        };
+        assert_eq!(call.turns, call.edges.len() / 5, "case {}", case.id);
+        assert_eq!(expected.turns.len(), call.turns, "case {}", case.id);
+        if let Answer::Refused(_) = expected.answer {
+            assert!(expected.turns.iter().all(|turn| *turn == call.fill as u32));
+            left += 1;
+        } else {
+            let pair = |turn: u32| {
+                let edge = turn as usize;
+                (expected.polygons[edge], expected.sequences[edge])
+            };
+            let rises = |two: &[u32]| pair(two[0]) < pair(two[1]);
+            assert!(expected.turns.windows(2).all(rises), "case {}", case.id);
+            filled += 1;
+        }
+    }
+    assert_eq!((filled, left), (48, 132));
 }

@@ -7,7 +7,7 @@ use witness::declared;
 use witness::geometry::{read_edges, MOST_EDGES, NUMBERS_PER_EDGE};
 use witness::worked::{accepted_by_document_01, accepted_in_films, touching, TWO_PEAKS};
 use witness::worked::{refused_by_document_01, refused_for_films, Pair, Worked, TRIANGLE};
-use witness::{number, outline, Answer, Refusal};
+use witness::{assemble, outline, Answer, Refusal};
 
 fn accepted(polygons: u32, peak: u32, records: u32) -> Answer {
     Answer::Accepted {
@@ -22,12 +22,12 @@ fn refused(number: u32, place: u32) -> Answer {
 }
 
 fn outcome(edges: &[i32], rows: usize) -> Outcome {
-    Call::fitting(edges.to_vec(), rows).outcome(number)
+    Call::fitting(edges.to_vec(), rows).outcome(assemble)
 }
 
 /// The sheet must get its pairs from the sweeps and from the declaration.
 fn check_accepted(worked: Worked) {
-    worked.check(number);
+    worked.check(assemble);
     let declared = declared::numbering(&read_edges(&worked.call.edges));
     let lists = declared.polygons.into_iter().zip(declared.sequences);
     assert_eq!(
@@ -49,10 +49,10 @@ fn accepted_by_hand() {
 #[test]
 fn refused_by_hand() {
     for worked in refused_by_document_01() {
-        worked.check(number);
+        worked.check(assemble);
     }
     for worked in refused_for_films() {
-        worked.check(number);
+        worked.check(assemble);
     }
 }
 
@@ -60,7 +60,7 @@ fn refused_by_hand() {
 fn an_empty_list_clears_what_is_lent() {
     let mut call = Call::fitting(Vec::new(), 2);
     call.journal = 9;
-    let outcome = call.outcome(number);
+    let outcome = call.outcome(assemble);
     assert_eq!((outcome.journal, outcome.rows), (vec![0; 9], vec![0; 16]));
     assert_eq!(declared::sufficient_rows(&[]), 0);
 }
@@ -84,7 +84,7 @@ fn a_part_of_a_row_does_not_help() {
     for part_of_a_row in 0..8 {
         let mut call = Call::fitting(TWO_PEAKS.to_vec(), 2);
         call.rows += part_of_a_row;
-        assert_eq!(call.outcome(number).answer, refused(10, 3));
+        assert_eq!(call.outcome(assemble).answer, refused(10, 3));
     }
 }
 
@@ -134,9 +134,9 @@ fn the_greatest_numbers() {
 fn the_shortest_journal() {
     let mut call = Call::fitting(TRIANGLE.to_vec(), 1);
     assert_eq!(call.journal, 24);
-    assert_eq!(call.outcome(number).answer, accepted(1, 1, 4));
+    assert_eq!(call.outcome(assemble).answer, accepted(1, 1, 4));
     call.journal = 23;
-    assert_eq!(call.outcome(number).answer, refused(4, 0));
+    assert_eq!(call.outcome(assemble).answer, refused(4, 0));
 }
 
 #[test]

@@ -12,7 +12,7 @@ use crate::steps::{sweep_up, NUMBERS_PER_ROW};
 
 use super::{any, Random};
 
-/// A call that must get this refusal, one of those tried on a numbering call.
+/// A call that must get this refusal, one of those tried on an assembling call.
 pub fn damaged(random: &mut Random, refusal: u32) -> Call {
     loop {
         let sheet = any(random);
@@ -63,10 +63,10 @@ fn too_many_edges(random: &mut Random, call: &mut Call) -> bool {
 }
 
 fn wrong_length(random: &mut Random, call: &mut Call) -> bool {
-    let length = if random.one_in(2) {
-        &mut call.polygons
-    } else {
-        &mut call.sequences
+    let length = match random.below(3) {
+        0 => &mut call.polygons,
+        1 => &mut call.sequences,
+        _ => &mut call.turns,
     };
     let longer = *length == 0 || random.one_in(2);
     *length = match (longer, random.one_in(2)) {
