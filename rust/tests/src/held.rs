@@ -8,51 +8,115 @@ use witness::{Answer, Refusal, TurnAnswer};
 
 use crate::guarded::{rubbish, Guarded};
 
-/// The four lent slices of a numbering call.
+/// The five lent slices of an assembling call.
 struct Lent {
     polygons: Vec<u32>,
     sequences: Vec<u32>,
+    turns: Vec<u32>,
     journal: Vec<i32>,
     rows: Vec<i32>,
 }
 
-/// Makes a numbering call of both; gives the answer that they agree on.
+impl Lent {
+    /// What a call is lent, not cleared.
+    fn rubbish(random: &mut Random, call: &Call) -> Lent {
+        Lent {
+            polygons: rubbish(random, call.polygons),
+            sequences: rubbish(random, call.sequences),
+            turns: rubbish(random, call.turns),
+            journal: rubbish(random, call.journal),
+            rows: rubbish(random, call.rows),
+        }
+    }
+
+    /// What the three lists hold.
+    fn lists(&self) -> [Vec<u32>; 3] {
+        [&self.polygons, &self.sequences, &self.turns].map(Vec::clone)
+    }
+
+    /// The witness's answer on these slices.
+    fn by_witness(&mut self, edges: &[i32]) -> Answer {
+        witness::assemble(
+            edges,
+            &mut self.polygons,
+            &mut self.sequences,
+            &mut self.turns,
+            &mut self.journal,
+            &mut self.rows,
+        )
+    }
+
+    /// The engine's answer on guarded copies of these slices, and what it left.
+    fn by_engine(&self, random: &mut Random, edges: &[i32]) -> (Answer, Lent) {
+        let mut lent_edges = Guarded::copy(random, edges);
+        let mut polygons = Guarded::copy(random, &self.polygons);
+        let mut sequences = Guarded::copy(random, &self.sequences);
+        let mut turns = Guarded::copy(random, &self.turns);
+        let mut journal = Guarded::copy(random, &self.journal);
+        let mut rows = Guarded::copy(random, &self.rows);
+        let answer = by_engine(
+            lent_edges.lent(),
+            polygons.lent(),
+            sequences.lent(),
+            turns.lent(),
+            journal.lent(),
+            rows.lent(),
+        );
+        assert!(lent_edges.held() == edges, "the edges are changed");
+        let left = Lent {
+            polygons: polygons.held().to_vec(),
+            sequences: sequences.held().to_vec(),
+            turns: turns.held().to_vec(),
+            journal: journal.held().to_vec(),
+            rows: rows.held().to_vec(),
+        };
+        (answer, left)
+    }
+}
+
+/// Makes an assembling call of both; gives the answer that they agree on.
 ///
 /// # Panics
-/// When they differ, or when the engine has written anywhere else.
-pub fn number(random: &mut Random, call: &Call) -> Answer {
-    let mut lent = Lent {
-        polygons: rubbish(random, call.polygons),
-        sequences: rubbish(random, call.sequences),
-        journal: rubbish(random, call.journal),
-        rows: rubbish(random, call.rows),
-    };
-    let mut edges = Guarded::copy(random, &call.edges);
-    let mut polygons = Guarded::copy(random, &lent.polygons);
-    let mut sequences = Guarded::copy(random, &lent.sequences);
-    let mut journal = Guarded::copy(random, &lent.journal);
-    let mut rows = Guarded::copy(random, &lent.rows);
-    let given = numbers(outline::number(
-        edges.lent(),
-        polygons.lent(),
-        sequences.lent(),
-        journal.lent(),
-        rows.lent(),
-    ));
-    let wanted = witness::number(
-        &call.edges,
-        &mut lent.polygons,
-        &mut lent.sequences,
-        &mut lent.journal,
-        &mut lent.rows,
-    );
+/// When they differ, when a refusal has changed a list, or when the engine has
+/// written anywhere else.
+pub fn assemble(random: &mut Random, call: &Call) -> Answer {
+    let mut lent = Lent::rubbish(random, call);
+    let before = lent.lists();
+    let (given, left) = lent.by_engine(random, &call.edges);
+    let wanted = lent.by_witness(&call.edges);
     assert_eq!(given, wanted, "the answer to {:?}", call);
-    assert!(edges.held() == call.edges, "the edges of {:?}", call);
-    assert_eq!(polygons.held(), lent.polygons, "polygons of {:?}", call);
-    assert_eq!(sequences.held(), lent.sequences, "sequences of {:?}", call);
-    assert_eq!(journal.held(), lent.journal, "the journal of {:?}", call);
-    assert_eq!(rows.held(), lent.rows, "the rows of {:?}", call);
-    wanted
+    assert_eq!(left.polygons, lent.polygons, "polygons of {:?}", call);
+    assert_eq!(left.sequences, lent.sequences, "sequences of {:?}", call);
+    assert_eq!(left.turns, lent.turns, "the turn list of {:?}", call);
+    assert_eq!(left.journal, lent.journal, "the journal of {:?}", call);
+    assert_eq!(left.rows, lent.rows, "the rows of {:?}", call);
+    if let Answer::Refused(_) = given {
+        assert_eq!(left.lists(), before, "the lists of {:?}", call);
+    }
+    given
+}
+
+/// The engine's call, answered in the witness's words.
+pub fn by_engine(
+    edges: &[i32],
+    polygons: &mut [u32],
+    sequences: &mut [u32],
+    turns: &mut [u32],
+    journal: &mut [i32],
+    rows: &mut [i32],
+) -> Answer {
+    match outline::assemble(edges, polygons, sequences, turns, journal, rows) {
+        outline::Answer::Accepted {
+            polygons,
+            peak,
+            records,
+        } => Answer::Accepted {
+            polygons,
+            peak,
+            records,
+        },
+        outline::Answer::Refused(refusal) => Answer::Refused(refused(refusal)),
+    }
 }
 
 /// Makes a turn list call of both; gives the answer that they agree on.
@@ -76,23 +140,7 @@ pub fn turns(random: &mut Random, call: &TurnCall) -> TurnAnswer {
     wanted
 }
 
-/// The engine's answer in the witness's words.
-pub fn numbers(answer: outline::Answer) -> Answer {
-    match answer {
-        outline::Answer::Accepted {
-            polygons,
-            peak,
-            records,
-        } => Answer::Accepted {
-            polygons,
-            peak,
-            records,
-        },
-        outline::Answer::Refused(refusal) => Answer::Refused(refused(refusal)),
-    }
-}
-
-/// The same for a turn list call.
+/// The engine's answer to a turn list call, in the witness's words.
 pub fn turned(answer: outline::TurnAnswer) -> TurnAnswer {
     match answer {
         outline::TurnAnswer::Accepted { polygons } => TurnAnswer::Accepted { polygons },

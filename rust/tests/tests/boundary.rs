@@ -1,7 +1,9 @@
 //! The two functions as they are exported, with nothing of the safe crate
-//! between: what the answers hold in the fields that do not apply, and a C
-//! program that includes the header and is linked with the same archive.
+//! between: what the answers hold in the fields that do not apply, a C program
+//! that includes the header and is linked with the same archive, and that the
+//! archive exports nothing else.
 
+use std::collections::BTreeSet;
 use std::fs;
 use std::io::Read;
 use std::path::{Path, PathBuf};
@@ -32,13 +34,15 @@ struct Turned {
 }
 
 extern "C" {
-    fn outline_number(
+    fn outline_assemble(
         edges: *const i32,
         edges_length: usize,
         polygons: *mut u32,
         polygons_length: usize,
         sequences: *mut u32,
         sequences_length: usize,
+        turns: *mut u32,
+        turns_length: usize,
         journal: *mut i32,
         journal_length: usize,
         rows: *mut i32,
@@ -61,17 +65,20 @@ fn sheet(call: &Call) -> Sheet {
     let _ = outline::MOST_EDGES;
     let mut polygons = vec![0; call.polygons];
     let mut sequences = vec![0; call.sequences];
+    let mut turns = vec![0; call.turns];
     let mut journal = vec![0; call.journal];
     let mut rows = vec![0; call.rows];
     // SAFETY: pointers and lengths are those of slices that are not shared.
     unsafe {
-        outline_number(
+        outline_assemble(
             call.edges.as_ptr(),
             call.edges.len(),
             polygons.as_mut_ptr(),
             polygons.len(),
             sequences.as_mut_ptr(),
             sequences.len(),
+            turns.as_mut_ptr(),
+            turns.len(),
             journal.as_mut_ptr(),
             journal.len(),
             rows.as_mut_ptr(),
@@ -128,7 +135,7 @@ fn turn_fields(answer: TurnAnswer) -> Turned {
 }
 
 #[test]
-fn every_field_of_a_numbering() {
+fn every_field_of_an_assembling_call() {
     for seed in 0..300 {
         let seed = Seed(seed);
         let random = &mut seed.random();
@@ -139,7 +146,7 @@ fn every_field_of_a_numbering() {
         let refusals = IN_ORDER.into_iter().filter(|refusal| *refusal != 2);
         calls.extend(refusals.map(|refusal| damaged(random, refusal)));
         for call in calls {
-            let answer = call.outcome(witness::number).answer;
+            let answer = call.outcome(witness::assemble).answer;
             assert_eq!(sheet(&call), fields(answer), "{:?}", call);
         }
     }
@@ -172,24 +179,28 @@ int main(void)
 {
     static const int32_t triangle[] = {0, 0, 4, 2, 7, 4, 2, 1, 5, 7, 1, 5, 0, 0, 7};
     static const int32_t no_film[] = {0, 0, 4, 2, OUTLINE_MOST_FILM + 1};
-    uint32_t polygons[3], sequences[3], turns[3];
+    uint32_t polygons[3], sequences[3], turns[3], again[3];
     int32_t journal[3 * OUTLINE_JOURNAL_NUMBERS_PER_EDGE];
     int32_t rows[OUTLINE_NUMBERS_PER_ROW];
-    outline_sheet sheet = outline_number(triangle, 3 * OUTLINE_NUMBERS_PER_EDGE,
-                                         polygons, 3, sequences, 3,
-                                         journal, 24, rows, 8);
-    outline_turned turned = outline_turns(polygons, 3, sequences, 3, turns, 3);
-    outline_sheet open = outline_number(triangle, 10, polygons, 2, sequences, 2,
-                                        journal, 24, rows, 8);
-    outline_sheet film = outline_number(no_film, 5, polygons, 1, sequences, 1,
-                                        journal, 24, rows, 8);
+    outline_sheet sheet = outline_assemble(triangle, 3 * OUTLINE_NUMBERS_PER_EDGE,
+                                           polygons, 3, sequences, 3, turns, 3,
+                                           journal, 24, rows, 8);
+    outline_turned turned = outline_turns(polygons, 3, sequences, 3, again, 3);
+    outline_sheet open = outline_assemble(triangle, 10, polygons, 2, sequences, 2,
+                                          turns, 2, journal, 24, rows, 8);
+    outline_sheet film = outline_assemble(no_film, 5, polygons, 1, sequences, 1,
+                                          turns, 1, journal, 24, rows, 8);
+    outline_sheet list = outline_assemble(triangle, 15, polygons, 3, sequences, 3,
+                                          turns, 2, journal, 24, rows, 8);
     printf("%u %u %u %u %u\n", (unsigned)sheet.refusal, (unsigned)sheet.place,
            (unsigned)sheet.polygons, (unsigned)sheet.peak, (unsigned)sheet.records);
     printf("%u %u %u\n", (unsigned)turned.refusal, (unsigned)turned.place,
            (unsigned)turned.polygons);
     printf("%u %u %u\n", (unsigned)turns[0], (unsigned)turns[1], (unsigned)turns[2]);
-    printf("%d %d\n", open.refusal == OUTLINE_UNEVEN,
-           film.refusal == OUTLINE_FILM_PAST_RANGE);
+    printf("%u %u %u\n", (unsigned)again[0], (unsigned)again[1], (unsigned)again[2]);
+    printf("%d %d %d\n", open.refusal == OUTLINE_UNEVEN,
+           film.refusal == OUTLINE_FILM_PAST_RANGE,
+           list.refusal == OUTLINE_LISTS_DIFFER);
     return 0;
 }
 "#;
@@ -231,7 +242,7 @@ fn printed_by(name: &str, program: &str) -> String {
 #[test]
 fn a_c_program_with_the_header() {
     let printed = printed_by("header", C_PROGRAM);
-    assert_eq!(printed, "0 0 1 1 4\n0 0 1\n2 0 1\n1 1\n");
+    assert_eq!(printed, "0 0 1 1 4\n0 0 1\n2 0 1\n2 0 1\n1 1 1\n");
 }
 
 #[test]
@@ -241,4 +252,28 @@ fn the_c_program_of_the_readme() {
     let program = program.split("```").next().unwrap();
     let printed = printed_by("readme", program);
     assert!(readme.contains(&format!("./a.out\n    {}", printed)));
+}
+
+/// The names that an archive exports, as the linker sees them; nothing where
+/// there is no such tool.
+fn exported(tool: &str) -> Option<BTreeSet<String>> {
+    let output = Command::new(tool)
+        .args(["--extern-only", "--defined-only", env!("ENGINE_ARCHIVE")])
+        .output()
+        .ok()?;
+    assert!(output.status.success(), "{:?}", output);
+    let listed = String::from_utf8(output.stdout).unwrap();
+    // A line that names a symbol has its address and its kind before it.
+    let names = listed.lines().filter_map(|line| line.splitn(3, ' ').nth(2));
+    Some(names.map(str::to_string).collect())
+}
+
+/// A caller from before numbers and turns were one call fails at the link, since
+/// what it calls is there no more.
+#[test]
+fn nothing_else_is_exported() {
+    let own = format!("{}-linux-gnu-nm", std::env::consts::ARCH);
+    let names = [own.as_str(), "nm"].iter().find_map(|tool| exported(tool));
+    let expected = ["outline_assemble", "outline_turns"].map(str::to_string);
+    assert_eq!(names.expect("nm"), BTreeSet::from(expected));
 }

@@ -2,7 +2,7 @@
 //! of an edge; the limits of coordinates and films and the ends of their type;
 //! the largest sheets of every shape with the rows at their peak.
 
-use tests::held::{number, refusal};
+use tests::held::{assemble, refusal};
 use witness::call::Call;
 use witness::generate::{comb, in_sweep_order, layered, mosaic, patchwork, pixels, saw, soup};
 use witness::generate::{spiral, squares, walks, Random, Sheet};
@@ -35,7 +35,7 @@ fn no_edge() {
             peak: 0,
             records: 0,
         };
-        assert_eq!(number(random, &call), accepted);
+        assert_eq!(assemble(random, &call), accepted);
     }
 }
 
@@ -44,10 +44,10 @@ fn one_edge() {
     let random = &mut Random::new(1);
     for ends in [[0, 0, 1, 1], [1, 1, 0, 0], [0, 0, 1, 0], [1, 0, 0, 0]] {
         let call = Call::fitting([&ends[..], &[255]].concat(), 1);
-        assert_eq!(number(random, &call), refused(9, 0));
+        assert_eq!(assemble(random, &call), refused(9, 0));
     }
     let call = Call::fitting(vec![5, 5, 5, 5, 0], 0);
-    assert_eq!(number(random, &call), refused(6, 0));
+    assert_eq!(assemble(random, &call), refused(6, 0));
 }
 
 #[test]
@@ -57,7 +57,7 @@ fn parts_of_an_edge() {
         for part in 1..NUMBERS_PER_EDGE {
             let edges = vec![0; NUMBERS_PER_EDGE * whole + part];
             let call = Call::fitting(edges, 1);
-            assert_eq!(number(random, &call), refused(1, 0));
+            assert_eq!(assemble(random, &call), refused(1, 0));
         }
     }
 }
@@ -71,24 +71,53 @@ fn the_most_edges_and_one_more() {
         peak: 1,
         records: 3 * 2_048,
     };
-    assert_eq!(number(random, &Call::fitting(most.clone(), 1)), accepted);
+    assert_eq!(assemble(random, &Call::fitting(most.clone(), 1)), accepted);
     assert_eq!(
-        number(random, &Call::fitting(most.clone(), 0)),
+        assemble(random, &Call::fitting(most.clone(), 0)),
         refused(10, 0)
     );
     let mut one_more = most.clone();
     one_more.extend([0, 9_999, 1, 9_999, 0]);
     let mut call = Call::fitting(one_more, 1);
-    assert_eq!(number(random, &call), refused(2, 0));
+    assert_eq!(assemble(random, &call), refused(2, 0));
     call.polygons = 0;
+    call.turns = 0;
     call.journal = 0;
-    assert_eq!(number(random, &call), refused(2, 0));
+    assert_eq!(assemble(random, &call), refused(2, 0));
     let mut call = Call::fitting(most, 1);
     call.sequences = 4_097;
-    assert_eq!(number(random, &call), refused(3, 0));
+    assert_eq!(assemble(random, &call), refused(3, 0));
     call.sequences = 4_096;
     call.journal -= 1;
-    assert_eq!(number(random, &call), refused(4, 0));
+    assert_eq!(assemble(random, &call), refused(4, 0));
+}
+
+/// A turn list of one number too few, one too many and none: 3, which comes
+/// after 1 and 2 and before 4.
+#[test]
+fn turn_lists_that_do_not_fit() {
+    let random = &mut Random::new(9);
+    for pairs in [1, 3, 2_048] {
+        let whole = there_and_back(pairs);
+        let edges = whole.len() / NUMBERS_PER_EDGE;
+        for turns in [edges - 1, edges + 1, 0] {
+            let mut call = Call::fitting(whole.clone(), 1);
+            call.turns = turns;
+            assert_eq!(assemble(random, &call), refused(3, 0));
+            call.journal = 0;
+            assert_eq!(assemble(random, &call), refused(3, 0));
+            call.edges.push(0);
+            assert_eq!(assemble(random, &call), refused(1, 0));
+        }
+    }
+    let mut call = Call::fitting(Vec::new(), 1);
+    call.turns = 1;
+    assert_eq!(assemble(random, &call), refused(3, 0));
+    for turns in [0, 4_096, 4_098] {
+        let mut call = Call::fitting(vec![0; NUMBERS_PER_EDGE * 4_097], 1);
+        call.turns = turns;
+        assert_eq!(assemble(random, &call), refused(2, 0));
+    }
 }
 
 #[test]
@@ -99,26 +128,29 @@ fn faults_at_the_last_of_the_most_edges() {
     equal_ends[last + 2] = equal_ends[last];
     equal_ends[last + 3] = equal_ends[last + 1];
     assert_eq!(
-        number(random, &Call::fitting(equal_ends, 1)),
+        assemble(random, &Call::fitting(equal_ends, 1)),
         refused(6, 4_095)
     );
     let mut too_low = there_and_back(2_048);
     too_low[last + 1] = 0;
     too_low[last + 3] = 1;
     assert_eq!(
-        number(random, &Call::fitting(too_low, 1)),
+        assemble(random, &Call::fitting(too_low, 1)),
         refused(7, 4_095)
     );
     let mut twice = there_and_back(2_048);
     twice.copy_within(last - NUMBERS_PER_EDGE..last, last);
-    assert_eq!(number(random, &Call::fitting(twice, 1)), refused(8, 4_095));
+    assert_eq!(
+        assemble(random, &Call::fitting(twice, 1)),
+        refused(8, 4_095)
+    );
     let mut open = there_and_back(2_048);
     open[last + 2] -= 1;
-    assert_eq!(number(random, &Call::fitting(open, 1)), refused(9, 4_094));
+    assert_eq!(assemble(random, &Call::fitting(open, 1)), refused(9, 4_094));
     for (film, refusal) in [(256, refused(16, 4_095)), (255, refused(9, 4_094))] {
         let mut other_film = there_and_back(2_048);
         other_film[last + 4] = film;
-        assert_eq!(number(random, &Call::fitting(other_film, 1)), refusal);
+        assert_eq!(assemble(random, &Call::fitting(other_film, 1)), refusal);
     }
 }
 
@@ -128,7 +160,7 @@ fn the_limits_of_coordinates_and_films() {
     let most = Point::LIMIT;
     let corners = [-most, -most, most, most, 255, most, most, -most, -most, 255];
     assert_eq!(
-        refusal(number(random, &Call::fitting(corners.to_vec(), 1))),
+        refusal(assemble(random, &Call::fitting(corners.to_vec(), 1))),
         0
     );
     let past = [most + 1, -most - 1, i32::MAX, i32::MIN, i32::MIN + 1];
@@ -143,12 +175,12 @@ fn the_limits_of_coordinates_and_films() {
             edges[at] = number_past;
             let place = (at / NUMBERS_PER_EDGE) as u32;
             let call = Call::fitting(edges, 1);
-            assert_eq!(number(random, &call), refused(refusal, place));
+            assert_eq!(assemble(random, &call), refused(refusal, place));
         }
     }
     let ends = [i32::MIN, i32::MIN, i32::MAX, i32::MAX, i32::MIN];
     assert_eq!(
-        number(random, &Call::fitting(ends.to_vec(), 1)),
+        assemble(random, &Call::fitting(ends.to_vec(), 1)),
         refused(5, 0)
     );
 }
@@ -171,7 +203,7 @@ fn outlines_along_the_limits() {
     }
     let sheet = in_sweep_order(random, edges);
     let rows = outline::rows_enough(&sheet);
-    let answer = number(random, &Call::fitting(sheet, rows));
+    let answer = assemble(random, &Call::fitting(sheet, rows));
     assert_eq!(refusal(answer), 0);
 }
 
@@ -180,9 +212,9 @@ fn hold_large(random: &mut Random, sheet: Sheet) {
     let peak = sweep_up(&read_edges(&sheet), usize::MAX).unwrap().peak;
     assert!(peak <= outline::rows_enough(&sheet));
     let enough = Call::fitting(sheet.clone(), peak);
-    assert_eq!(refusal(number(random, &enough)), 0);
+    assert_eq!(refusal(assemble(random, &enough)), 0);
     let too_few = Call::fitting(sheet, peak - 1);
-    assert_eq!(refusal(number(random, &too_few)), 10);
+    assert_eq!(refusal(assemble(random, &too_few)), 10);
 }
 
 #[test]
@@ -216,5 +248,5 @@ fn a_million_rows() {
     let random = &mut Random::new(8);
     let sheet = pixels(random, 12, 12, 50, true);
     let call = Call::fitting(sheet, 1_000_000);
-    assert_eq!(refusal(number(random, &call)), 0);
+    assert_eq!(refusal(assemble(random, &call)), 0);
 }

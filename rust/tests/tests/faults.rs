@@ -3,7 +3,8 @@
 
 use std::collections::BTreeSet;
 
-use tests::held::{number, refusal, turn_refusal, turns};
+use outline::Outlines;
+use tests::held::{assemble, refusal, turn_refusal, turns};
 use witness::call::TurnCall;
 use witness::checks::{BY_EDGE, IN_ORDER};
 use witness::generate::{any, damage, damaged, Random, Seed};
@@ -20,7 +21,7 @@ fn two_faults_in_every_pair() {
                 if !damage(random, &mut call, first) {
                     continue;
                 }
-                let got = refusal(number(random, &call));
+                let got = refusal(assemble(random, &call));
                 let either = BY_EDGE.contains(&first) && BY_EDGE.contains(&second);
                 assert!(got == first || (either && got == second), "{}", got);
                 pairs.insert((first, second));
@@ -30,23 +31,13 @@ fn two_faults_in_every_pair() {
     assert_eq!(pairs.len(), 55);
 }
 
-/// A numbering of some sheet, with its lists long enough to be damaged.
+/// The engine's numbering of some sheet, with its lists long enough to be
+/// damaged.
 fn numbering(random: &mut Random) -> TurnCall {
     loop {
-        let sheet = any(random);
-        let edges = sheet.len() / outline::NUMBERS_PER_EDGE;
-        let rows = outline::rows_enough(&sheet);
-        let (mut polygons, mut sequences) = (vec![0; edges], vec![0; edges]);
-        let (mut journal, mut rows) = (vec![0; 8 * edges], vec![0; 8 * rows]);
-        outline::number(
-            &sheet,
-            &mut polygons,
-            &mut sequences,
-            &mut journal,
-            &mut rows,
-        );
-        if edges >= 4 {
-            return TurnCall::fitting(polygons, sequences);
+        let outlines = Outlines::of(&any(random)).unwrap();
+        if outlines.polygons().len() >= 4 {
+            return TurnCall::fitting(outlines.polygons().to_vec(), outlines.sequences().to_vec());
         }
     }
 }

@@ -5,7 +5,7 @@
 
 use std::collections::BTreeMap;
 
-use tests::held::{number, refusal};
+use tests::held::{assemble, refusal};
 use witness::call::Call;
 use witness::checks::IN_ORDER;
 use witness::generate::{any, damaged, Random, Seed};
@@ -17,7 +17,7 @@ type Met = BTreeMap<u32, usize>;
 
 /// Makes a call of both engines and counts its answer.
 fn hold(random: &mut Random, call: &Call, met: &mut Met) -> u32 {
-    let refusal = refusal(number(random, call));
+    let refusal = refusal(assemble(random, call));
     *met.entry(refusal).or_insert(0) += 1;
     refusal
 }
@@ -55,9 +55,10 @@ fn hold_rows(random: &mut Random, call: &Call, peak: usize, met: &mut Met) {
 
 /// Every size wrong by one, up and down.
 fn hold_lengths(random: &mut Random, call: &Call, met: &mut Met) {
-    let sizes: [fn(&mut Call) -> &mut usize; 4] = [
+    let sizes: [fn(&mut Call) -> &mut usize; 5] = [
         |call| &mut call.polygons,
         |call| &mut call.sequences,
+        |call| &mut call.turns,
         |call| &mut call.journal,
         |call| &mut call.rows,
     ];
@@ -109,6 +110,9 @@ fn hold_numbers(random: &mut Random, met: &mut Met) {
     let mut call = Call::fitting(edges, random.below(3));
     if random.one_in(8) {
         call.sequences = random.below(7);
+    }
+    if random.one_in(8) {
+        call.turns = random.below(7);
     }
     if random.one_in(8) {
         call.journal = random.below(9 * length + 1);

@@ -5,7 +5,7 @@
 use std::path::Path;
 use std::{env, fs};
 
-use tests::held::{number, refusal};
+use tests::held::{assemble, refusal};
 use tests::rows::{plot, shapes, table, Measured, Shape};
 use witness::call::Call;
 use witness::declared::{longest, passing, sufficient_rows};
@@ -29,7 +29,7 @@ fn check(random: &mut Random, sheet: &Sheet) -> (usize, usize) {
     let (most, longest) = (passing(&edges), longest(&edges));
     assert_eq!(enough, most * whole_log2(edges.len()));
     assert!(enough >= most * whole_log2(longest));
-    match number(random, &Call::fitting(sheet.clone(), enough)) {
+    match assemble(random, &Call::fitting(sheet.clone(), enough)) {
         Answer::Accepted { peak, .. } => (peak as usize, enough),
         Answer::Refused(refusal) => panic!("with {} rows: {:?}", enough, refusal),
     }
@@ -80,9 +80,9 @@ fn measured(random: &mut Random, shape: Shape) -> Measured {
     } = shape;
     let (peak, lent) = check(random, &sheet);
     let exactly = Call::fitting(sheet.clone(), peak);
-    assert_eq!(refusal(number(random, &exactly)), 0);
+    assert_eq!(refusal(assemble(random, &exactly)), 0);
     let one_fewer = Call::fitting(sheet.clone(), peak - 1);
-    assert_eq!(refusal(number(random, &one_fewer)), 10);
+    assert_eq!(refusal(assemble(random, &one_fewer)), 10);
     let edges = read_edges(&sheet);
     Measured {
         family,

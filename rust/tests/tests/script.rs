@@ -409,7 +409,7 @@ fn refusals_that_the_program_does_not_give() {
         (
             3,
             "ListsDiffer",
-            "the polygon list or the sequence list has not one number for each edge",
+            "the polygon list, the sequence list or the turn list has not one number for each edge",
             own,
         ),
         (

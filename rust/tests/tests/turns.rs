@@ -1,14 +1,17 @@
 //! The turn list through the static library, held against the witness: on the
 //! numberings of sheets, whole, shuffled and spoilt, on lists of small and of
-//! any numbers, on every length that is wrong by one.
+//! any numbers, on every length that is wrong by one. And the turn list that
+//! comes with a sheet's numbers, held against the one that is read from them and
+//! against the edges themselves.
 
 use std::collections::BTreeMap;
 
-use tests::held::{turn_refusal, turns};
-use witness::call::{Call, TurnCall};
+use outline::Outlines;
+use tests::held::{turn_refusal, turned, turns};
+use witness::call::TurnCall;
 use witness::declared;
-use witness::generate::{any, comb, saw, squares, Random, Seed, Sheet};
-use witness::geometry::read_edges;
+use witness::generate::{any, comb, patchwork, saw, squares, Random, Seed, Sheet};
+use witness::geometry::{read_edges, Edge};
 use witness::TurnAnswer;
 
 /// The numbering that the rules declare for a sheet.
@@ -131,17 +134,41 @@ fn the_longest_lists() {
     }
 }
 
-/// What the numbering call leaves is a numbering: its turn list is accepted.
+/// Each edge ends where the next begins, and the last where the first does.
+fn check_end_to_end(edges: &[Edge], places: &[u32]) {
+    let following = places.iter().cycle().skip(1);
+    for (place, next) in places.iter().zip(following) {
+        let (edge, next) = (edges[*place as usize], edges[*next as usize]);
+        assert_eq!(edge.head, next.tail);
+    }
+}
+
+/// The turn list that comes with a sheet's numbers is the one that is read from
+/// them, and lays each outline's edges end to end, from the edge numbered 0.
+fn check_assembled(sheet: &Sheet) {
+    let outlines = Outlines::of(sheet).unwrap();
+    let polygons = outlines.count() as u32;
+    let mut list = vec![0; outlines.turns().len()];
+    let answer = outline::turns(outlines.polygons(), outlines.sequences(), &mut list);
+    assert_eq!(turned(answer), TurnAnswer::Accepted { polygons });
+    assert_eq!(outlines.turns(), list);
+    let edges = read_edges(sheet);
+    for outline in 1..=outlines.count() {
+        let places = outlines.places(outline);
+        assert_eq!(outlines.sequences()[places[0] as usize], 0);
+        check_end_to_end(&edges, places);
+    }
+}
+
 #[test]
-fn what_is_numbered_has_a_turn_list() {
+fn what_is_assembled_is_in_turn() {
     for seed in 0..2_000 {
         let seed = Seed(seed);
-        let random = &mut seed.random();
-        let sheet = any(random);
-        let rows = outline::rows_enough(&sheet);
-        let numbered = Call::fitting(sheet, rows)
-            .outcome(|a, b, c, d, e| tests::held::numbers(outline::number(a, b, c, d, e)));
-        let call = TurnCall::fitting(numbered.polygons, numbered.sequences);
-        assert_eq!(turn_refusal(turns(random, &call)), 0);
+        check_assembled(&any(&mut seed.random()));
     }
+    let random = &mut Random::new(9);
+    check_assembled(&saw(random, 11));
+    check_assembled(&comb(random, 1_024));
+    check_assembled(&squares(random, 32, 32));
+    check_assembled(&patchwork(random, 32, 32));
 }

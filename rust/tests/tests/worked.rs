@@ -2,8 +2,8 @@
 //! static library. The expected numbers come from the papers and from the files,
 //! not from the witness.
 
-use outline::{number, turns};
-use tests::held::{numbers, turned};
+use outline::turns;
+use tests::held::{by_engine, turned};
 use witness::vectors::{all_cases, Work};
 use witness::worked::{accepted_by_document_01, accepted_in_films};
 use witness::worked::{refused_by_document_01, refused_for_films};
@@ -13,19 +13,18 @@ fn by_hand() {
     let of_document_01 = [accepted_by_document_01(), refused_by_document_01()];
     let of_films = [accepted_in_films(), refused_for_films()];
     for worked in of_document_01.into_iter().chain(of_films).flatten() {
-        worked.check(|a, b, c, d, e| numbers(number(a, b, c, d, e)));
+        worked.check(by_engine);
     }
 }
 
 #[test]
 fn every_case_of_the_vectors() {
-    let (mut number_cases, mut turn_cases) = (0, 0);
+    let (mut assemble_cases, mut turn_cases) = (0, 0);
     for case in all_cases().unwrap() {
         match case.work {
-            Work::Number(call, expected) => {
-                let outcome = call.outcome(|a, b, c, d, e| numbers(number(a, b, c, d, e)));
-                assert_eq!(outcome, expected, "case {}", case.id);
-                number_cases += 1;
+            Work::Assemble(call, expected) => {
+                assert_eq!(call.outcome(by_engine), expected, "case {}", case.id);
+                assemble_cases += 1;
             }
             Work::Turns(call, expected) => {
                 let outcome = call.outcome(|a, b, c| turned(turns(a, b, c)));
@@ -35,5 +34,5 @@ fn every_case_of_the_vectors() {
             Work::Program(..) => {}
         }
     }
-    assert_eq!((number_cases, turn_cases), (180, 56));
+    assert_eq!((assemble_cases, turn_cases), (281, 96));
 }
