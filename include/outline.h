@@ -1,10 +1,11 @@
 /*
  * outline.h: the outline engine for C and C++, x86-64.
  *
- * The engine takes the directed edges of a drawing in sweep order and gives
- * each edge the number of the closed outline that it belongs to and its place
- * round that outline. It is proved; it comes as libdesk.a, which
- * `rt staticlib desk` writes to target/staticlib.
+ * The engine takes the directed edges of a drawing in sweep order, gives each
+ * edge the number of the closed outline that it belongs to and its place round
+ * that outline, and lists the edges in the order in which they are cut. It is
+ * proved; it comes as libdesk.a, which `rt staticlib desk` writes to
+ * target/staticlib.
  *
  *     cc program.c -I include target/staticlib/libdesk.a
  *
@@ -49,10 +50,11 @@ enum {
  */
 enum {
     OUTLINE_ACCEPTED = 0,
-    /* outline_number */
+    /* outline_assemble */
     OUTLINE_NOT_WHOLE = 1,      /* the list's length is no multiple of 5 */
     OUTLINE_TOO_MANY = 2,       /* more than 4,096 edges */
-    OUTLINE_LISTS_DIFFER = 3,   /* polygons or sequences: not one an edge */
+    OUTLINE_LISTS_DIFFER = 3,   /* polygons, sequences or turns: not one an
+                                   edge */
     OUTLINE_JOURNAL_SHORT = 4,  /* fewer than 8 numbers an edge */
     OUTLINE_PAST_RANGE = 5,     /* the edge has a coordinate past the limit */
     OUTLINE_EQUAL_ENDS = 6,     /* the edge begins where it ends */
@@ -74,7 +76,7 @@ enum {
     OUTLINE_MALFORMED = 15      /* place: the first malformed line, from 1 */
 };
 
-/* The answer of outline_number. */
+/* The answer of outline_assemble. */
 typedef struct {
     uint32_t refusal;  /* 0: accepted */
     uint32_t place;    /* accepted: 0 */
@@ -91,7 +93,7 @@ typedef struct {
 } outline_turned;
 
 /*
- * Numbers a list of edges.
+ * Numbers a list of edges and puts them in turn.
  *
  *   edges      five numbers an edge, in sweep order: no edge has its higher end
  *              below that of the edge before it, a point being higher by y and
@@ -103,14 +105,18 @@ typedef struct {
  *              the list; whose stands later has the smaller number.
  *   sequences  one number an edge: its place round its outline, from 0. The
  *              edge that leaves the highest point has 0.
+ *   turns      one number an edge: the places of the edges, outline by outline
+ *              and each in sequence order; what outline_turns reads from the
+ *              other two lists. Each edge ends at the point where the next of
+ *              its outline begins, and the last where the first begins.
  *   journal    8 numbers an edge or more. Holds the records of the sweep up
  *              afterwards, 4 numbers each, then zeros.
  *   rows       8 numbers a row; what is over at the end is no row. What the
  *              rows hold before does not matter. All zeros afterwards.
  *
- * Accepted: polygons and sequences are filled, journal and rows as said.
- * Refused: polygons and sequences are as they were; so are journal and rows,
- * but for refusal 10, which leaves both all zeros.
+ * Accepted: polygons, sequences and turns are filled, journal and rows as said.
+ * Refused: all three lists are as they were; so are journal and rows, but for
+ * refusal 10, which leaves both all zeros. 11 to 14 never come from this call.
  *
  * How many rows to lend: let C be the most edges, of all films, that pass any
  * one point (its lower end is below the point, its higher end is not) and L the
@@ -119,16 +125,17 @@ typedef struct {
  * answer's peak is the exact number for this list: with so many it is accepted
  * again, with fewer it gets refusal 10. Lending more costs their clearing only.
  */
-outline_sheet outline_number(const int32_t *edges, size_t edges_length,
-                             uint32_t *polygons, size_t polygons_length,
-                             uint32_t *sequences, size_t sequences_length,
-                             int32_t *journal, size_t journal_length,
-                             int32_t *rows, size_t rows_length);
+outline_sheet outline_assemble(const int32_t *edges, size_t edges_length,
+                               uint32_t *polygons, size_t polygons_length,
+                               uint32_t *sequences, size_t sequences_length,
+                               uint32_t *turns, size_t turns_length,
+                               int32_t *journal, size_t journal_length,
+                               int32_t *rows, size_t rows_length);
 
 /*
- * Reads the turn list from a polygon list and a sequence list: the places of
- * the edges, outline by outline and each in sequence order. All three have one
- * number an edge. Accepted are exactly the numberings whose polygon numbers run
+ * Reads the turn list from a polygon list and a sequence list that come from
+ * elsewhere: the places of the edges, outline by outline and each in sequence
+ * order. All three have one number an edge. Accepted are exactly the numberings whose polygon numbers run
  * from 1 without a gap and in which the sequence numbers of each polygon run
  * from 0 without gap or repeat. Refused: the turn list is as it was.
  */
