@@ -46,17 +46,17 @@ RATTLE_HOME=$work/kit rt staticlib desk
 # place of a large answer differently; the engine's function takes it as its first argument, which a line of C makes up for.
 "$tools/bin/clang" -Wno-everything -x ir "$work/engine.bc" -S -emit-llvm -o "$work/theirs.ll"
 sed -E -e '/^target datalayout/d' -e "s/^target triple.*/target triple = \"$machine-unknown-linux-gnu\"/" \
-    -e 's/"(target-cpu|target-features|tune-cpu)"="[^"]*"//g' -e 's/@outline_number\(/@outline_number_into(/' "$work/theirs.ll" >"$work/ours.ll"
+    -e 's/"(target-cpu|target-features|tune-cpu)"="[^"]*"//g' -e 's/@outline_assemble\(/@outline_assemble_into(/' "$work/theirs.ll" >"$work/ours.ll"
 "$tools/bin/clang" --target="$machine-unknown-linux-gnu" -Wno-everything -O3 -fPIC -ffunction-sections -c -x ir "$work/ours.ll" -o "$work/desk.o"
 cat >"$work/answer.c" <<'C'
 #include "outline.h"
 
-void outline_number_into(outline_sheet *, const int32_t *, size_t, uint32_t *, size_t, uint32_t *, size_t, int32_t *, size_t, int32_t *, size_t);
+void outline_assemble_into(outline_sheet *, const int32_t *, size_t, uint32_t *, size_t, uint32_t *, size_t, uint32_t *, size_t, int32_t *, size_t, int32_t *, size_t);
 
-outline_sheet outline_number(const int32_t *e, size_t el, uint32_t *p, size_t pl, uint32_t *s, size_t sl, int32_t *j, size_t jl, int32_t *r, size_t rl)
+outline_sheet outline_assemble(const int32_t *e, size_t el, uint32_t *p, size_t pl, uint32_t *s, size_t sl, uint32_t *t, size_t tl, int32_t *j, size_t jl, int32_t *r, size_t rl)
 {
     outline_sheet sheet;
-    outline_number_into(&sheet, e, el, p, pl, s, sl, j, jl, r, rl);
+    outline_assemble_into(&sheet, e, el, p, pl, s, sl, t, tl, j, jl, r, rl);
     return sheet;
 }
 C

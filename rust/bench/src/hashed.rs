@@ -1,45 +1,59 @@
 //! Joining by a hash map, as one would write it without Hartley's method: the
 //! same checks in the same order, each edge's follower looked up by point, film
 //! and side, every round walked once, outlines sorted by their tops. It gives
-//! the same polygon and sequence numbers and the same refusals but for 10; it
-//! writes no journal and needs no rows.
+//! the same polygon and sequence numbers, the same turn list and the same
+//! refusals but for 10; it writes no journal and needs no rows.
 
 use std::collections::HashMap;
 
-use witness::checks::{Refusal, JOURNAL_NUMBERS_PER_EDGE};
+use witness::checks::{Lengths, Refusal, JOURNAL_NUMBERS_PER_EDGE};
 use witness::geometry::{read_edges, Edge, Point, Site, MOST_EDGES, NUMBERS_PER_EDGE};
 
-/// Numbers a list; gives how many outlines there are.
-pub fn number(
-    numbers: &[i32],
-    polygons: &mut [u32],
-    sequences: &mut [u32],
-    journal: usize,
-) -> Result<u32, Refusal> {
-    check_lengths(numbers.len(), polygons.len(), sequences.len(), journal)?;
+/// The lists that are filled, and how many numbers the journal has that is not
+/// written.
+pub struct Lent<'a> {
+    /// The polygon list.
+    pub polygons: &'a mut [u32],
+    /// The sequence list.
+    pub sequences: &'a mut [u32],
+    /// The turn list.
+    pub turns: &'a mut [u32],
+    /// The length of the journal.
+    pub journal: usize,
+}
+
+impl Lent<'_> {
+    fn lengths(&self) -> Lengths {
+        Lengths {
+            polygons: self.polygons.len(),
+            sequences: self.sequences.len(),
+            turns: self.turns.len(),
+            journal: self.journal,
+        }
+    }
+}
+
+/// Numbers a list and puts its edges in turn; gives how many outlines there are.
+pub fn assemble(numbers: &[i32], lent: &mut Lent) -> Result<u32, Refusal> {
+    check_lengths(numbers.len(), lent.lengths())?;
     let edges = read_edges(numbers);
     check_edges(&edges)?;
     let ends = Ends::of(&edges)?;
     ends.check_balance(&edges)?;
     let followers = ends.followers(&edges);
-    Ok(walk(&edges, &followers, polygons, sequences))
+    Ok(walk(&edges, &followers, lent))
 }
 
 /// Refusals 1 to 4.
-fn check_lengths(
-    numbers: usize,
-    polygons: usize,
-    sequences: usize,
-    journal: usize,
-) -> Result<(), Refusal> {
+fn check_lengths(numbers: usize, lengths: Lengths) -> Result<(), Refusal> {
     let edges = numbers / NUMBERS_PER_EDGE;
     if numbers % NUMBERS_PER_EDGE != 0 {
         Err(Refusal::at(1, 0))
     } else if edges > MOST_EDGES {
         Err(Refusal::at(2, 0))
-    } else if polygons != edges || sequences != edges {
+    } else if [lengths.polygons, lengths.sequences, lengths.turns] != [edges; 3] {
         Err(Refusal::at(3, 0))
-    } else if journal < JOURNAL_NUMBERS_PER_EDGE * edges {
+    } else if lengths.journal < JOURNAL_NUMBERS_PER_EDGE * edges {
         Err(Refusal::at(4, 0))
     } else {
         Ok(())
@@ -152,40 +166,44 @@ fn take(place: &mut u32, edge: usize) -> bool {
 
 /// Walks every round from the edge that leaves its top, the one whose top edge
 /// stands last first. The list is in sweep order, so going back through it the
-/// first edge met of a round ends or begins at its top.
-fn walk(edges: &[Edge], followers: &[u32], polygons: &mut [u32], sequences: &mut [u32]) -> u32 {
-    polygons.fill(0);
-    let mut count = 0;
+/// first edge met of a round ends or begins at its top. So the edges are met in
+/// the order of the turn list.
+fn walk(edges: &[Edge], followers: &[u32], lent: &mut Lent) -> u32 {
+    lent.polygons.fill(0);
+    let (mut count, mut met) = (0, 0);
     for last in (0..edges.len()).rev() {
-        if polygons[last] != 0 {
+        if lent.polygons[last] != 0 {
             continue;
         }
         count += 1;
         let first = if edges[last].is_up() {
-            followers[last] as usize
+            followers[last]
         } else {
-            last
+            last as u32
         };
-        number_round(first, count, followers, polygons, sequences);
+        met += number_round(first, count, followers, lent, met);
     }
     count
 }
 
-/// Numbers the edges of one round.
+/// Numbers the edges of one round, and puts them in turn after those that were
+/// met before; gives how many there are.
 fn number_round(
-    first: usize,
+    first: u32,
     polygon: u32,
     followers: &[u32],
-    polygons: &mut [u32],
-    sequences: &mut [u32],
-) {
+    lent: &mut Lent,
+    before: usize,
+) -> usize {
     let (mut edge, mut sequence) = (first, 0);
-    while polygons[edge] == 0 {
-        polygons[edge] = polygon;
-        sequences[edge] = sequence;
+    while lent.polygons[edge as usize] == 0 {
+        lent.polygons[edge as usize] = polygon;
+        lent.sequences[edge as usize] = sequence as u32;
+        lent.turns[before + sequence] = edge;
         sequence += 1;
-        edge = followers[edge] as usize;
+        edge = followers[edge as usize];
     }
+    sequence
 }
 
 #[cfg(test)]
@@ -196,29 +214,35 @@ mod tests {
     use witness::generate::{any, damaged, Seed};
     use witness::Answer;
 
-    /// The numbers and the refusal of a call.
-    fn outcome(call: &Call) -> (Result<u32, Refusal>, Vec<u32>, Vec<u32>) {
-        let mut polygons = vec![7; call.polygons];
-        let mut sequences = vec![7; call.sequences];
-        let answer = number(&call.edges, &mut polygons, &mut sequences, call.journal);
-        (answer, polygons, sequences)
+    /// The answer to a call, and what its three lists hold then.
+    fn outcome(call: &Call) -> (Result<u32, Refusal>, [Vec<u32>; 3]) {
+        let lengths = [call.polygons, call.sequences, call.turns];
+        let mut lists = lengths.map(|length| vec![7; length]);
+        let [polygons, sequences, turns] = &mut lists;
+        let mut lent = Lent {
+            polygons,
+            sequences,
+            turns,
+            journal: call.journal,
+        };
+        let answer = assemble(&call.edges, &mut lent);
+        (answer, lists)
     }
 
     #[test]
-    fn the_numbers_of_the_witness() {
+    fn the_numbers_and_turns_of_the_witness() {
         for seed in 0..1_000 {
             let seed = Seed(seed);
             let sheet = any(&mut seed.random());
             let rows = outline::rows_enough(&sheet);
             let call = Call::fitting(sheet, rows);
-            let wanted = call.outcome(witness::number);
-            let (answer, polygons, sequences) = outcome(&call);
+            let wanted = call.outcome(witness::assemble);
+            let (answer, lists) = outcome(&call);
             match wanted.answer {
                 Answer::Accepted { polygons, .. } => assert_eq!(answer, Ok(polygons)),
                 Answer::Refused(refusal) => panic!("{:?}", refusal),
             }
-            assert_eq!(polygons, wanted.polygons);
-            assert_eq!(sequences, wanted.sequences);
+            assert_eq!(lists, [wanted.polygons, wanted.sequences, wanted.turns]);
         }
     }
 
@@ -228,8 +252,8 @@ mod tests {
             for seed in 0..if refusal == 2 { 10 } else { 200 } {
                 let seed = Seed(seed);
                 let call = damaged(&mut seed.random(), refusal);
-                let (answer, _, _) = outcome(&call);
-                let wanted = call.outcome(witness::number).answer;
+                let (answer, _) = outcome(&call);
+                let wanted = call.outcome(witness::assemble).answer;
                 assert_eq!(answer.map_err(Answer::Refused), Err(wanted));
             }
         }

@@ -15,21 +15,22 @@ use rivals::{Desk, Desks, Times};
 use sheets::{Shape, SHAPES, SIZES};
 
 /// What the first table shows.
-const NUMBERING: &str = "\
-Numbering, in nanoseconds an edge, the best of many runs over different sheets of a
-shape, in each size as many as have about 4,096 edges together; edges and peak are
-those of the first. Engine, witness and hash map check the same refusals; the engine
-and the witness clear and fill all that is lent, with as many rows as the sheet's
-peak. The witness's sweeps are timed once more without its checks. Growth is the
-engine's time an edge beside that of the shape's first line.
+const ASSEMBLING: &str = "\
+Numbers and turns in one call (`outline_assemble`), in nanoseconds an edge, the best
+of many runs over different sheets of a shape, in each size as many as have about
+4,096 edges together; edges and peak are those of the first. Engine, witness and hash
+map check the same refusals and fill the same three lists; the engine and the witness
+clear and fill the rest of what is lent too, with as many rows as the sheet's peak.
+The witness's sweeps are timed once more without its checks and its turn list. Growth
+is the engine's time an edge beside that of the shape's first line.
 
 | sheet | edges | peak | engine | witness | its sweeps | hash map | engine / witness | engine / its sweeps | engine / hash map | growth |
 |---|--:|--:|--:|--:|--:|--:|--:|--:|--:|--:|";
 
 /// What the second table shows.
 const TURN_LISTS: &str = "\
-The turn list of the same numberings, in nanoseconds an edge; both check refusals 11
-to 14.
+The turn list read from the same numbers, as if they came from elsewhere
+(`outline_turns`), in nanoseconds an edge; both check refusals 11 to 14.
 
 | sheet | edges | engine | witness | engine / witness | growth |
 |---|--:|--:|--:|--:|--:|";
@@ -47,11 +48,11 @@ struct Measured {
 fn main() {
     println!("{}\n", machine());
     let shapes: Vec<Vec<Measured>> = SHAPES.iter().map(measure_shape).collect();
-    println!("{}", NUMBERING);
+    println!("{}", ASSEMBLING);
     for shape in &shapes {
         shape
             .iter()
-            .for_each(|line| print_numbering(line, &shape[0]));
+            .for_each(|line| print_assembling(line, &shape[0]));
     }
     println!("\n{}", TURN_LISTS);
     for shape in &shapes {
@@ -83,7 +84,7 @@ impl Measured {
     }
 }
 
-fn print_numbering(line: &Measured, first: &Measured) {
+fn print_assembling(line: &Measured, first: &Measured) {
     let times = &line.times;
     println!(
         "| {} | {} | {} | {:.1} | {:.1} | {:.1} | {:.1} | {:.2} | {:.2} | {:.2} | {:.2} |",

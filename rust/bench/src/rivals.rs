@@ -1,13 +1,14 @@
-//! The three ways to number a sheet, on the same lent slices: the engine, the
-//! witness's steps, and joining by a hash map. Before anything is timed their
-//! results are compared. And the engine's turn list.
+//! The three ways to number a sheet and put its edges in turn, on the same lent
+//! slices: the engine, the witness's steps, and joining by a hash map. Before
+//! anything is timed their results are compared. And the turn list read from the
+//! numbers alone.
 
 use outline::{Answer, TurnAnswer};
 use witness::generate::Sheet;
 use witness::geometry::read_edges;
 use witness::steps::{sweep_down, sweep_up};
 
-use crate::hashed;
+use crate::hashed::{self, Lent};
 use crate::timing::best;
 
 /// A sheet with all that is lent for it. The slices are used again and again as
@@ -27,13 +28,13 @@ pub struct Times {
     pub engine: f64,
     /// The witness.
     pub witness: f64,
-    /// The witness's two sweeps alone, without its checks.
+    /// The witness's two sweeps alone, without its checks and its turn list.
     pub sweeps: f64,
     /// The hash map.
     pub hashed: f64,
-    /// The engine's turn list.
+    /// The engine's turn list, read from the numbers.
     pub turns: f64,
-    /// The witness's turn list.
+    /// The witness's, likewise.
     pub witness_turns: f64,
 }
 
@@ -65,21 +66,27 @@ impl Desk {
             Answer::Accepted { polygons, peak, .. } => (polygons, peak),
             Answer::Refused(refusal) => panic!("the engine refuses: {}", refusal),
         };
-        let (numbers, journal) = (self.numbers(), self.journal.clone());
+        let (lists, journal) = (self.lists(), self.journal.clone());
         self.spoil();
         match self.witness() {
             witness::Answer::Accepted { peak: same, .. } => assert_eq!(peak, same),
             witness::Answer::Refused(refusal) => panic!("the witness refuses: {:?}", refusal),
         }
-        assert!(numbers == self.numbers(), "the witness differs");
+        assert!(lists == self.lists(), "the witness differs");
         assert!(journal == self.journal, "the witness's journal differs");
         self.spoil();
         assert_eq!(self.hashed(), polygons);
-        assert!(numbers == self.numbers(), "the hash map differs");
+        assert!(lists == self.lists(), "the hash map differs");
+        self.turns.fill(7);
         assert_eq!(self.engine_turns(), TurnAnswer::Accepted { polygons });
-        let mut list = vec![0; self.count()];
-        witness::turns(&self.polygons, &self.sequences, &mut list);
-        assert!(self.turns == list, "the turn list differs");
+        assert!(
+            lists == self.lists(),
+            "the turn list of the numbers differs"
+        );
+        self.turns.fill(7);
+        let same = witness::TurnAnswer::Accepted { polygons };
+        assert_eq!(self.witness_turns(), same);
+        assert!(lists == self.lists(), "the witness's turn list differs");
         peak as usize
     }
 
@@ -98,29 +105,35 @@ impl Desk {
     }
 
     fn engine(&mut self) -> Answer {
-        outline::number(
+        outline::assemble(
             &self.edges,
             &mut self.polygons,
             &mut self.sequences,
+            &mut self.turns,
             &mut self.journal,
             &mut self.rows,
         )
     }
 
     fn witness(&mut self) -> witness::Answer {
-        witness::number(
+        witness::assemble(
             &self.edges,
             &mut self.polygons,
             &mut self.sequences,
+            &mut self.turns,
             &mut self.journal,
             &mut self.rows,
         )
     }
 
     fn hashed(&mut self) -> u32 {
-        let (polygons, sequences) = (&mut self.polygons, &mut self.sequences);
-        let journal = self.journal.len();
-        match hashed::number(&self.edges, polygons, sequences, journal) {
+        let mut lent = Lent {
+            polygons: &mut self.polygons,
+            sequences: &mut self.sequences,
+            turns: &mut self.turns,
+            journal: self.journal.len(),
+        };
+        match hashed::assemble(&self.edges, &mut lent) {
             Ok(polygons) => polygons,
             Err(refusal) => panic!("the hash map refuses: {:?}", refusal),
         }
@@ -134,15 +147,16 @@ impl Desk {
         witness::turns(&self.polygons, &self.sequences, &mut self.turns)
     }
 
-    /// What the two lists hold.
-    fn numbers(&self) -> (Vec<u32>, Vec<u32>) {
-        (self.polygons.clone(), self.sequences.clone())
+    /// What the three lists hold.
+    fn lists(&self) -> [Vec<u32>; 3] {
+        [&self.polygons, &self.sequences, &self.turns].map(Vec::clone)
     }
 
     /// Leaves nothing in the lists and the journal of what was found.
     fn spoil(&mut self) {
         self.polygons.fill(7);
         self.sequences.fill(7);
+        self.turns.fill(7);
         self.journal.fill(7);
     }
 }
