@@ -2,7 +2,7 @@
 //! rubbish. The answers must be the same, and so must every number of every
 //! slice.
 
-use witness::call::{Call, TurnCall};
+use witness::call::{Call, Outcome, TurnCall};
 use witness::generate::Random;
 use witness::{Answer, Refusal, TurnAnswer};
 
@@ -54,14 +54,14 @@ impl Lent {
         let mut turns = Guarded::copy(random, &self.turns);
         let mut journal = Guarded::copy(random, &self.journal);
         let mut rows = Guarded::copy(random, &self.rows);
-        let answer = by_engine(
+        let answer = numbers(outline::assemble(
             lent_edges.lent(),
             polygons.lent(),
             sequences.lent(),
             turns.lent(),
             journal.lent(),
             rows.lent(),
-        );
+        ));
         assert!(lent_edges.held() == edges, "the edges are changed");
         let left = Lent {
             polygons: polygons.held().to_vec(),
@@ -96,27 +96,9 @@ pub fn assemble(random: &mut Random, call: &Call) -> Answer {
     given
 }
 
-/// The engine's call, answered in the witness's words.
-pub fn by_engine(
-    edges: &[i32],
-    polygons: &mut [u32],
-    sequences: &mut [u32],
-    turns: &mut [u32],
-    journal: &mut [i32],
-    rows: &mut [i32],
-) -> Answer {
-    match outline::assemble(edges, polygons, sequences, turns, journal, rows) {
-        outline::Answer::Accepted {
-            polygons,
-            peak,
-            records,
-        } => Answer::Accepted {
-            polygons,
-            peak,
-            records,
-        },
-        outline::Answer::Refused(refusal) => Answer::Refused(refused(refusal)),
-    }
+/// What is to be seen after an assembling call of the engine.
+pub fn outcome(call: &Call) -> Outcome {
+    call.outcome(|a, b, c, d, e, f| numbers(outline::assemble(a, b, c, d, e, f)))
 }
 
 /// Makes a turn list call of both; gives the answer that they agree on.
@@ -140,7 +122,23 @@ pub fn turns(random: &mut Random, call: &TurnCall) -> TurnAnswer {
     wanted
 }
 
-/// The engine's answer to a turn list call, in the witness's words.
+/// The engine's answer in the witness's words.
+fn numbers(answer: outline::Answer) -> Answer {
+    match answer {
+        outline::Answer::Accepted {
+            polygons,
+            peak,
+            records,
+        } => Answer::Accepted {
+            polygons,
+            peak,
+            records,
+        },
+        outline::Answer::Refused(refusal) => Answer::Refused(refused(refusal)),
+    }
+}
+
+/// The same for a turn list call.
 pub fn turned(answer: outline::TurnAnswer) -> TurnAnswer {
     match answer {
         outline::TurnAnswer::Accepted { polygons } => TurnAnswer::Accepted { polygons },

@@ -3,7 +3,7 @@
 //! not from the witness.
 
 use outline::turns;
-use tests::held::{by_engine, turned};
+use tests::held::{outcome, turned};
 use witness::vectors::{all_cases, Work};
 use witness::worked::{accepted_by_document_01, accepted_in_films};
 use witness::worked::{refused_by_document_01, refused_for_films};
@@ -13,7 +13,7 @@ fn by_hand() {
     let of_document_01 = [accepted_by_document_01(), refused_by_document_01()];
     let of_films = [accepted_in_films(), refused_for_films()];
     for worked in of_document_01.into_iter().chain(of_films).flatten() {
-        worked.check(by_engine);
+        worked.check(&outcome(&worked.call));
     }
 }
 
@@ -23,7 +23,7 @@ fn every_case_of_the_vectors() {
     for case in all_cases().unwrap() {
         match case.work {
             Work::Assemble(call, expected) => {
-                assert_eq!(call.outcome(by_engine), expected, "case {}", case.id);
+                assert_eq!(outcome(&call), expected, "case {}", case.id);
                 assemble_cases += 1;
             }
             Work::Turns(call, expected) => {

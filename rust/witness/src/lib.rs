@@ -11,8 +11,14 @@
 //! let triangle = [0, 0, 4, 2, 0, 4, 2, 1, 5, 0, 1, 5, 0, 0, 0];
 //! let (mut polygons, mut sequences, mut turns) = ([0; 3], [0; 3], [0; 3]);
 //! let (mut journal, mut rows) = ([0; 24], [0; 8]);
-//! let lists = (&mut polygons, &mut sequences, &mut turns);
-//! let answer = assemble(&triangle, lists.0, lists.1, lists.2, &mut journal, &mut rows);
+//! let answer = assemble(
+//!     &triangle,
+//!     &mut polygons,
+//!     &mut sequences,
+//!     &mut turns,
+//!     &mut journal,
+//!     &mut rows,
+//! );
 //! let (count, peak, records) = (1, 1, 4);
 //! assert_eq!(answer, Answer::Accepted { polygons: count, peak, records });
 //! assert_eq!((polygons, sequences, turns), ([1, 1, 1], [1, 2, 0], [2, 0, 1]));

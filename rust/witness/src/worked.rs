@@ -49,20 +49,16 @@ impl Worked {
         }
     }
 
-    /// Makes the call; its answer must be this one, and every slice must be as
-    /// the answer sheet says.
+    /// An outcome of the call: its answer must be this one, and every slice must
+    /// be as the answer sheet says.
     ///
     /// # Panics
     /// When they are not.
-    pub fn check<F>(&self, assemble: F)
-    where
-        F: FnOnce(&[i32], &mut [u32], &mut [u32], &mut [u32], &mut [i32], &mut [i32]) -> Answer,
-    {
-        let outcome = self.call.outcome(assemble);
+    pub fn check(&self, outcome: &Outcome) {
         assert_eq!(outcome.answer, self.answer, "{}", self.name);
         match self.answer {
-            Answer::Accepted { records, .. } => self.check_filled(&outcome, records),
-            Answer::Refused(refusal) => self.check_left(&outcome, refusal.number),
+            Answer::Accepted { records, .. } => self.check_filled(outcome, records),
+            Answer::Refused(refusal) => self.check_left(outcome, refusal.number),
         }
     }
 

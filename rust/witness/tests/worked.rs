@@ -27,7 +27,7 @@ fn outcome(edges: &[i32], rows: usize) -> Outcome {
 
 /// The sheet must get its pairs from the sweeps and from the declaration.
 fn check_accepted(worked: Worked) {
-    worked.check(assemble);
+    worked.check(&worked.call.outcome(assemble));
     let declared = declared::numbering(&read_edges(&worked.call.edges));
     let lists = declared.polygons.into_iter().zip(declared.sequences);
     assert_eq!(
@@ -49,10 +49,10 @@ fn accepted_by_hand() {
 #[test]
 fn refused_by_hand() {
     for worked in refused_by_document_01() {
-        worked.check(assemble);
+        worked.check(&worked.call.outcome(assemble));
     }
     for worked in refused_for_films() {
-        worked.check(assemble);
+        worked.check(&worked.call.outcome(assemble));
     }
 }
 
