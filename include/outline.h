@@ -135,9 +135,10 @@ outline_sheet outline_assemble(const int32_t *edges, size_t edges_length,
 /*
  * Reads the turn list from a polygon list and a sequence list that come from
  * elsewhere: the places of the edges, outline by outline and each in sequence
- * order. All three have one number an edge. Accepted are exactly the numberings whose polygon numbers run
- * from 1 without a gap and in which the sequence numbers of each polygon run
- * from 0 without gap or repeat. Refused: the turn list is as it was.
+ * order. All three have one number an edge. Accepted are exactly the numberings
+ * whose polygon numbers run from 1 without a gap and in which the sequence
+ * numbers of each polygon run from 0 without gap or repeat. Refused: the turn
+ * list is as it was.
  */
 outline_turned outline_turns(const uint32_t *polygons, size_t polygons_length,
                              const uint32_t *sequences, size_t sequences_length,
