@@ -1,8 +1,8 @@
 //! Refusals 1 to 9 of document 01's answer sheet, 3 as request M-101 reads it,
 //! and 16 of request M-100, each with its place, in the order in which the
-//! papers try them: the lengths; then
-//! edge by edge the range, the film, equal ends and the sweep order; then
-//! soundness over the whole list. Any list of any length is taken.
+//! papers try them: the lengths; then edge by edge the range, the film, equal
+//! ends and the sweep order; then soundness over the whole list. Any list of any
+//! length is taken.
 
 use std::collections::{BTreeMap, BTreeSet};
 
