@@ -43,10 +43,12 @@ RATTLE_HOME=$work/kit rt staticlib desk
 [ -f "$work/engine.bc" ] || { echo "native: the engine's bitcode was not seen" >&2; exit 1; }
 
 # The same code for this machine: its own layout of data, no features of the other one. The two kinds of machine hand over the
-# place of a large answer differently; the engine's function takes it as its first argument, which a line of C makes up for.
+# place of a large answer differently; the engine's function takes it as its first argument, which a line of C makes up for. The
+# part that lays the turn list is made visible, for the benchmark to time it by itself.
 "$tools/bin/clang" -Wno-everything -x ir "$work/engine.bc" -S -emit-llvm -o "$work/theirs.ll"
 sed -E -e '/^target datalayout/d' -e "s/^target triple.*/target triple = \"$machine-unknown-linux-gnu\"/" \
-    -e 's/"(target-cpu|target-features|tune-cpu)"="[^"]*"//g' -e 's/@outline_assemble\(/@outline_assemble_into(/' "$work/theirs.ll" >"$work/ours.ll"
+    -e 's/"(target-cpu|target-features|tune-cpu)"="[^"]*"//g' -e 's/@"assembly::laying::lay_turns"/@lay_turns/' \
+    -e 's/^define internal void @lay_turns\(/define void @lay_turns(/' -e 's/@outline_assemble\(/@outline_assemble_into(/' "$work/theirs.ll" >"$work/ours.ll"
 "$tools/bin/clang" --target="$machine-unknown-linux-gnu" -Wno-everything -O3 -fPIC -ffunction-sections -c -x ir "$work/ours.ll" -o "$work/desk.o"
 cat >"$work/answer.c" <<'C'
 #include "outline.h"
@@ -59,10 +61,23 @@ outline_sheet outline_assemble(const int32_t *e, size_t el, uint32_t *p, size_t 
     outline_assemble_into(&sheet, e, el, p, pl, s, sl, t, tl, j, jl, r, rl);
     return sheet;
 }
+
+typedef struct {
+    const void *numbers;
+    size_t length;
+} slice;
+
+void lay_turns(const slice *, const slice *, size_t, const slice *);
+
+void outline_lay_turns(const uint32_t *p, size_t pl, const uint32_t *s, size_t sl, size_t count, uint32_t *t, size_t tl)
+{
+    slice polygons = {p, pl}, sequences = {s, sl}, turns = {t, tl};
+    lay_turns(&polygons, &sequences, count, &turns);
+}
 C
 cc -O3 -fPIC -Wall -Werror -I include -c "$work/answer.c" -o "$work/answer.o"
 mkdir -p target/native
 rm -f target/native/libdesk.a
 "$tools/bin/llvm-ar" rcs target/native/libdesk.a "$work/desk.o" "$work/answer.o"
 
-OUTLINE_ARCHIVE=$here/target/native/libdesk.a exec cargo run --release --manifest-path rust/Cargo.toml --target-dir target/native/cargo -p bench
+OUTLINE_ARCHIVE=$here/target/native/libdesk.a exec cargo run --release --manifest-path rust/Cargo.toml --target-dir target/native/cargo -p bench --features laying

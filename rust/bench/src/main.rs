@@ -4,6 +4,7 @@
 //! the engine's call.
 
 mod hashed;
+mod laying;
 mod rivals;
 mod sheets;
 mod timing;
@@ -30,10 +31,11 @@ is the engine's time an edge beside that of the shape's first line.
 /// What the second table shows.
 const TURN_LISTS: &str = "\
 The turn list read from the same numbers, as if they came from elsewhere
-(`outline_turns`), in nanoseconds an edge; both check refusals 11 to 14.
+(`outline_turns`), in nanoseconds an edge; both check refusals 11 to 14. Beside it
+the same list laid by the engine inside `outline_assemble`, where it knows the numbers.
 
-| sheet | edges | engine | witness | engine / witness | growth |
-|---|--:|--:|--:|--:|--:|";
+| sheet | edges | engine | witness | engine / witness | growth | inside the call | inside / engine |
+|---|--:|--:|--:|--:|--:|--:|--:|";
 
 /// What was measured of a shape in one size: the edges and the peak of the first
 /// sheet, and the times for the edges of all.
@@ -104,14 +106,18 @@ fn print_assembling(line: &Measured, first: &Measured) {
 
 fn print_turns(line: &Measured, first: &Measured) {
     let times = &line.times;
+    let inside = times.laying.map_or("not timed | ".to_string(), |laying| {
+        format!("{:.1} | {:.2}", line.an_edge(laying), laying / times.turns)
+    });
     println!(
-        "| {} | {} | {:.1} | {:.1} | {:.2} | {:.2} |",
+        "| {} | {} | {:.1} | {:.1} | {:.2} | {:.2} | {} |",
         line.name,
         line.edges,
         line.an_edge(times.turns),
         line.an_edge(times.witness_turns),
         times.turns / times.witness_turns,
-        line.an_edge(times.turns) / first.an_edge(first.times.turns)
+        line.an_edge(times.turns) / first.an_edge(first.times.turns),
+        inside
     );
 }
 

@@ -9,6 +9,7 @@ use witness::geometry::read_edges;
 use witness::steps::{sweep_down, sweep_up};
 
 use crate::hashed::{self, Lent};
+use crate::laying;
 use crate::timing::best;
 
 /// A sheet with all that is lent for it. The slices are used again and again as
@@ -20,6 +21,7 @@ pub struct Desk {
     turns: Vec<u32>,
     journal: Vec<i32>,
     rows: Vec<i32>,
+    outlines: usize,
 }
 
 /// What was measured of a sheet, in nanoseconds.
@@ -36,6 +38,8 @@ pub struct Times {
     pub turns: f64,
     /// The witness's, likewise.
     pub witness_turns: f64,
+    /// The engine's turn list laid inside its call, where that part can be timed.
+    pub laying: Option<f64>,
 }
 
 impl Desk {
@@ -48,6 +52,7 @@ impl Desk {
             turns: vec![7; count],
             journal: vec![7; outline::JOURNAL_NUMBERS_PER_EDGE * count],
             rows: vec![7; outline::NUMBERS_PER_ROW * rows],
+            outlines: 0,
             edges,
         }
     }
@@ -66,6 +71,7 @@ impl Desk {
             Answer::Accepted { polygons, peak, .. } => (polygons, peak),
             Answer::Refused(refusal) => panic!("the engine refuses: {}", refusal),
         };
+        self.outlines = polygons as usize;
         let (lists, journal) = (self.lists(), self.journal.clone());
         self.spoil();
         match self.witness() {
@@ -87,7 +93,16 @@ impl Desk {
         let same = witness::TurnAnswer::Accepted { polygons };
         assert_eq!(self.witness_turns(), same);
         assert!(lists == self.lists(), "the witness's turn list differs");
+        self.compare_laying(&lists);
         peak as usize
+    }
+
+    /// Compares the turn list laid by itself, where that can be.
+    fn compare_laying(&mut self, lists: &[Vec<u32>; 3]) {
+        self.turns.fill(7);
+        if self.lay() {
+            assert!(*lists == self.lists(), "the turn list laid differs");
+        }
     }
 
     /// Times the engine alone.
@@ -145,6 +160,15 @@ impl Desk {
 
     fn witness_turns(&mut self) -> witness::TurnAnswer {
         witness::turns(&self.polygons, &self.sequences, &mut self.turns)
+    }
+
+    fn lay(&mut self) -> bool {
+        laying::lay(
+            &self.polygons,
+            &self.sequences,
+            self.outlines,
+            &mut self.turns,
+        )
     }
 
     /// What the three lists hold.
@@ -207,7 +231,18 @@ impl Desks {
             witness_turns: self.best_of(|desk| {
                 desk.witness_turns();
             }),
+            laying: self.time_laying(),
         }
+    }
+
+    /// Times the laying of the turn list alone, where that can be.
+    fn time_laying(&mut self) -> Option<f64> {
+        let able = self.0.iter_mut().all(Desk::lay);
+        able.then(|| {
+            self.best_of(|desk| {
+                desk.lay();
+            })
+        })
     }
 
     /// Times some work on every desk.
