@@ -6,3 +6,5 @@ pub mod Passes
 pub mod CutInOrder
 pub mod Assembling
 pub mod OneOutcome
+pub mod Neighbours
+pub mod Worked

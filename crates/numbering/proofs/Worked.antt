@@ -34,7 +34,7 @@ use Rattle.sheet.specs.Amounts.{numbersPerEdge, journalNumbersPerEdge}
 use Rattle.steps.specs.Swept.{numbersPerRow}
 
 -- a sheet with the lengths of the slices lent, and what 01 says of it: refusal and place, or 0, 0; polygons, peak, records; the two lists
-record Expected : Type 0 where
+pub record Expected : Type 0 where
   list : List ℕ
   polygons-lent : ℕ
   sequences-lent : ℕ
@@ -49,7 +49,7 @@ record Expected : Type 0 where
   polygon : List ℕ
   sequence : List ℕ
 
-abbrev lentFor : Expected → Lent
+abbrev pub lentFor : Expected → Lent
 lentFor w =
     record {
       list = map pos (w .list);
@@ -127,7 +127,7 @@ empty = accepted [] 0 0 0 0 [] []
 one-triangle : Expected
 one-triangle = accepted triangle 1 1 1 4 (1 ∷ 1 ∷ 1 ∷ []) (1 ∷ 2 ∷ 0 ∷ [])
 
-two-touching : Expected
+pub two-touching : Expected
 two-touching =
     accepted touching 4 2 4 11 (2 ∷ 2 ∷ 1 ∷ 2 ∷ 2 ∷ 1 ∷ 1 ∷ []) (1 ∷ 2 ∷ 1 ∷ 3 ∷ 0 ∷ 2 ∷ 0 ∷ [])
 
@@ -169,20 +169,20 @@ trianglePlace : ℕ
 trianglePlace = topHeight (drawingOf (lentFor one-triangle .list)) 0
 
 -- all of the table, and of three sheets what the refutations below need
-record AllWorked : Type 0 where
+pub record AllWorked : Type 0 where
   right-all : allRight sheets ≡ true
   of-empty : outcome (lentFor empty) .answer ≡ Accepted 0 0 0
   of-triangle : outcome (lentFor one-triangle) .answer ≡ Accepted 1 1 4
   lists-of-triangle : outcome (lentFor one-triangle) .polygons ≡ 1 ∷ 1 ∷ 1 ∷ []
   untouched-triangle : lentFor one-triangle .polygons ≡ 77 ∷ 77 ∷ 77 ∷ []
-  lists-of-touching : outcome (lentFor two-touching) .polygons ≡ 2 ∷ 2 ∷ 1 ∷ 2 ∷ 2 ∷ 1 ∷ 1 ∷ []
-  sequences-of-touching : outcome (lentFor two-touching) .sequences ≡ 1 ∷ 2 ∷ 1 ∷ 3 ∷ 0 ∷ 2 ∷ 0 ∷ []
+  pub lists-of-touching : outcome (lentFor two-touching) .polygons ≡ 2 ∷ 2 ∷ 1 ∷ 2 ∷ 2 ∷ 1 ∷ 1 ∷ []
+  pub sequences-of-touching : outcome (lentFor two-touching) .sequences ≡ 1 ∷ 2 ∷ 1 ∷ 3 ∷ 0 ∷ 2 ∷ 0 ∷ []
   lists-of-pairs : outcome (lentFor three-pairs) .polygons ≡ 3 ∷ 3 ∷ 2 ∷ 2 ∷ 1 ∷ 1 ∷ []
   of-pairs : outcome (lentFor three-pairs) .answer ≡ Accepted 3 1 9
-  of-touching : outcome (lentFor two-touching) .answer ≡ Accepted 2 4 11
+  pub of-touching : outcome (lentFor two-touching) .answer ≡ Accepted 2 4 11
   passing-triangle : passing (drawingOf (lentFor one-triangle .list)) trianglePlace ≡ 2
 
-all-worked : AllWorked
+pub all-worked : AllWorked
 unfolding
     allRight
     right
