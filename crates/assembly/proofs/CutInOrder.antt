@@ -6,12 +6,13 @@ use mathlib.Core.Path.{_≡_, refl, sym, ap, _∙_, subst}
 use mathlib.Core.Bool.{true}
 use mathlib.Core.List.{List}
 use mathlib.Core.Logic.{⊎-elim}
-use Prim.Native.Nat.{ℕ, zero, suc, _*_, _/_, _%_, _≤_, _<_}
+use Prim.Native.Nat.{ℕ, suc, _*_, _/_, _%_, _≤_, _<_}
 use native.Mathlib.Omega.{arith}
 use lib.Dec.{eqb}
 use lib.ListN.{length, getD}
 use Rattle.laws.specs.Counting.{count}
 use Rattle.laws.proofs.Deciding.{lt-or-le}
+use Rattle.laws.proofs.Counting.{count-all}
 use Rattle.laws.proofs.Pigeonhole.{pigeon}
 use Rattle.sheet.specs.Edges.{Drawing, edgeAt, edgesIn, drawingOf}
 use Rattle.sheet.specs.Joining.{Follows, InOutline, itself, onwards}
@@ -24,7 +25,6 @@ use Rattle.sheet.proofs.Places.{place-parts}
 use Rattle.sheet.proofs.Outlines.{outline-shares, shares-outline}
 use Rattle.sheet.proofs.ExactlyAccepted.{accepts-exactly}
 use Rattle.checks.proofs.Passed.{AllPassed}
-use Rattle.hartley.proofs.bounds.LengthsAndLevels.{count-every}
 use Rattle.hartley.proofs.results.TurnsFollow.{sequence-below, sequence-met, last-to-first, turns-follow}
 use Rattle.turns.proofs.OneTurnList.{every-edge, edge-once}
 use Rattle.assembly.specs.Assembled.{CutInOrder}
@@ -55,7 +55,7 @@ module _ {sh : Drawing} (K : Checked sh) {polygon sequence : ℕ → ℕ} {n : �
       let two = two-of (e .0) (e .1) in
       let x = sequence-met K A (suc (k / 2)) (k % 2) (omega (arith, two, ap (outlineSize sh polygon) (e .2))) in
       (x .0, x .1, refl, (x .2, x .3))) in
-      omega (arith, p, count-every (2 * n), count-every (sh .edges))
+      omega (arith, p, count-all (λ k. true) (2 * n) (λ k h. refl), count-all (λ x. true) (sh .edges) (λ x h. refl))
 
 module _ {sh : Drawing} (K : Checked sh) {polygon sequence : ℕ → ℕ} {n : ℕ} (A : Numbering sh polygon sequence n) where
   abbrev numbers : NumberLists

@@ -3,7 +3,6 @@ use Prim.Native.Nat.{ℕ}
 use mathlib.Core.Path.{_≡_}
 use mathlib.Core.List.{List}
 use mathlib.Core.Logic.{_↔_}
-use lib.IntN.{ℤ}
 use lib.ListN.{length}
 use Rattle.sheet.specs.declared.Answer.{Answer}
 use Rattle.sheet.specs.declared.Answer.the-variants as answer
@@ -32,6 +31,8 @@ pub record Exports (l : Lent) (before : List ℕ) (y : Left Sheet) (after : List
   pub inner : Left Answer
   pub promised : Assembled l before inner after
   pub same : y ≡ byNumbers inner
+  -- no refusal has the number 0
+  pub accepted : y .answer .refusal ≡ 0 → (peak : ℕ) × (records : ℕ) × (inner .answer ≡ answer.Accepted (y .answer .polygons) peak records)
 
 -- the turn list as it is left, and the answer by its numbers
 pub record ReadTurns (polygons sequences before after : List ℕ) (r : Turned) : Type 0 where

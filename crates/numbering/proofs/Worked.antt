@@ -168,7 +168,7 @@ sheets =
 trianglePlace : ℕ
 trianglePlace = topHeight (drawingOf (lentFor one-triangle .list)) 0
 
--- all of the table, and of three sheets what the refutations below need
+-- all of the table, and of three sheets what the refutations below need, and the turn list of the touching one (crates/assembly)
 pub record AllWorked : Type 0 where
   right-all : allRight sheets ≡ true
   of-empty : outcome (lentFor empty) .answer ≡ Accepted 0 0 0

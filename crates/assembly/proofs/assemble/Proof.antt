@@ -1,5 +1,4 @@
 -- `assemble` meets its contract: by the answer of the numbering, the turn list laid or left.
-use denote.Ref.{now}
 use borrow.Author.Needs.{needs}
 use Rattle.assembly.proofs.Assembling.{to-lay, when-laid, when-refused}
 use Rattle.assembly.proofs.assemble.Statement.{statement}

@@ -1,6 +1,7 @@
 -- `outline_assemble` meets its contract: the promise of `assemble`, its answer as plain numbers.
 use Rattle.numbering.specs.Outcome.{leftAs}
 use borrow.Author.Needs.{needs}
+use Rattle.desk.proofs.Accepting.{zero-is-accepted}
 use Rattle.desk.proofs.outline_assemble.Statement.{statement}
 use Rattle.desk.proofs.outline_assemble.Tie as tie
 
@@ -10,6 +11,7 @@ returns c =
     record {
       inner = _;
       promised = n .ensures;
+      accepted = zero-is-accepted (c .sheet-of .ensures);
       same = λ i. leftAs (c .sheet-of .ensures i) (n .last .1 .0) (n .last .1 .1 .0) (n .last .1 .1 .1 .1 .0) (n .last .1 .1 .1 .1 .1 .0);
     }
 
