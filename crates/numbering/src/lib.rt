@@ -12,7 +12,8 @@ ghost use Rattle.numbering.specs.Promised.{Promised};
 ghost use Rattle.sheet.specs.Amounts.{numbersPerEdge, journalNumbersPerEdge, mostEdges};
 
 // Gives every edge its polygon number and its place round the polygon, or says why not.
-// Takes every list and every size of the lent slices; of the turn list that a caller goes on to fill, its length, which 3 compares. Accepted: both lists filled, the records in the journal followed by zeros, the rows all zeros.
+// Takes every list and every size of the lent slices, and the length of the turn list that a caller goes on to fill, which 3 compares too.
+// Accepted: both lists filled, the records in the journal followed by zeros, the rows all zeros.
 pub fn number(
     edges: &[i32],
     polygons: &mut [u32],
