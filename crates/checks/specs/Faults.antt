@@ -25,8 +25,11 @@ endsEqual e = isSame (e .tail) (e .head)
 abbrev pub topBelow : Edge → Edge → Bool
 topBelow e before = isBelow (topOf e) (topOf before)
 
+unfoldable pub faultAlone : Edge → Bool
+faultAlone e = endPastRange e || (filmPast e || endsEqual e)
+
 unfoldable pub faultAfter : Edge → Edge → Bool
-faultAfter before e = endPastRange e || (filmPast e || (endsEqual e || topBelow e before))
+faultAfter before e = faultAlone e || topBelow e before
 
 -- what stands before the first edge: both ends at the lowest point of the range
 abbrev pub beforeFirst : Edge

@@ -1,8 +1,8 @@
 -- `checked` by stages, each with a function that can be called alone: the lengths, the edges one by one, the places. That the three in a row are
 -- `checked` is shown in proofs/Answering.antt.
-use mathlib.Core.Bool.{not}
+use mathlib.Core.Bool.{Bool, not, _||_}
 use mathlib.Core.List.{List}
-use Prim.Native.Nat.{_%_}
+use Prim.Native.Nat.{ℕ, _%_}
 use lib.Dec.{eqb, ltb}
 use lib.IntN.{ℤ}
 use lib.ListN.{length}
@@ -10,7 +10,7 @@ use Rattle.sheet.specs.declared.Refusal.the-variants.{NotWhole, TooMany, ListsD
 use Rattle.sheet.specs.declared.Check.{Check}
 use Rattle.sheet.specs.declared.Check.the-variants.{Passed, Refused}
 use Rattle.sheet.specs.Edges.{edgesIn, drawingOf}
-use Rattle.sheet.specs.Answers.{Call, listsDiffer, journalShort, edgeFault, faultOf, repeats, uneven, refuseIf, refuseFirst}
+use Rattle.sheet.specs.Answers.{Call, listsDiffer, journalShort, pastRange, filmPastRange, equalEnds, edgeFault, faultOf, repeats, uneven, refuseIf, refuseFirst}
 use Rattle.sheet.specs.Amounts.{numbersPerEdge, mostEdges}
 
 -- what a stage answers, and where it passes what the next one does
@@ -26,9 +26,17 @@ listChecked s = refuseIf (not (eqb (length s % numbersPerEdge) 0)) NotWhole (ref
 unfoldable pub lengthsChecked : Call → Check
 lengthsChecked c = andThen (listChecked (c .list)) (refuseIf (listsDiffer c) ListsDiffer (refuseIf (journalShort c) JournalShort Passed))
 
+-- what an edge has by itself: 5, 16 or 6
+abbrev pub aloneFault : List ℤ → ℕ → Bool
+aloneFault s e = pastRange s e || (filmPastRange s e || equalEnds s e)
+
 -- 5, 16, 6 and 7
 unfoldable pub edgesChecked : List ℤ → Check
 edgesChecked s = refuseFirst (edgeFault s) (edgesIn s) (faultOf s) Passed
+
+-- 5, 16 and 6, for calls that don't ask for an order of the edges
+unfoldable pub edgesAloneChecked : List ℤ → Check
+edgesAloneChecked s = refuseFirst (aloneFault s) (edgesIn s) (faultOf s) Passed
 
 -- 8 over the whole list, then 9
 unfoldable pub placesChecked : List ℤ → Check

@@ -9,8 +9,8 @@ ghost use lib.ListN.{length};
 ghost use Rattle.laws.specs.Counting.{first};
 ghost use Rattle.sheet.specs.Edges.{edgesIn};
 ghost use Rattle.sheet.specs.Answers.{edgeFault, faultOf};
-ghost use Rattle.checks.specs.Faults.{endPastRange, filmPast, endsEqual, topBelow, beforeFirst, faultAfter, firstRefusal};
-ghost use Rattle.checks.specs.Stages.{edgesChecked};
+ghost use Rattle.checks.specs.Faults.{endPastRange, filmPast, endsEqual, faultAlone, topBelow, beforeFirst, faultAfter, firstRefusal};
+ghost use Rattle.checks.specs.Stages.{aloneFault, edgesChecked, edgesAloneChecked};
 ghost use Rattle.sheet.specs.Amounts.{numbersPerEdge, mostEdges};
 
 // 5: an end is out of the range.
@@ -50,9 +50,9 @@ pub fn top_falls(edge: Edge, before: Edge) -> bool
     top.below(last)
 }
 
-// Whether an edge that stands after another has 5, 16, 6 or 7.
-fn has_fault(edge: Edge, before: Edge) -> bool
-    ensures { λ r. ⌜ r ≡ faultAfter before edge ⌝ }
+// Whether an edge has 5, 16 or 6.
+fn alone_at_fault(edge: Edge) -> bool
+    ensures { λ r. ⌜ r ≡ faultAlone edge ⌝ }
 {
     if past_range(edge) {
         return true;
@@ -60,7 +60,14 @@ fn has_fault(edge: Edge, before: Edge) -> bool
     if film_past_range(edge) {
         return true;
     }
-    if equal_ends(edge) {
+    equal_ends(edge)
+}
+
+// Whether an edge that stands after another has 5, 16, 6 or 7.
+fn has_fault(edge: Edge, before: Edge) -> bool
+    ensures { λ r. ⌜ r ≡ faultAfter before edge ⌝ }
+{
+    if alone_at_fault(edge) {
         return true;
     }
     top_falls(edge, before)
@@ -127,6 +134,34 @@ fn fault_of(edges: &[i32], e: usize) -> Refusal
         equal_ends(edge),
         e as u32,
     )
+}
+
+// The first of n edges with 5, 16 or 6, n where there is none.
+fn first_alone(edges: &[i32], n: usize) -> usize
+    requires { ⌜ numbersPerEdge * n ≤ length (now edges) ⌝ }
+    ensures { λ r. ⌜ r ≡ first (aloneFault (now (edges .entry))) n ⌝ }
+{
+    let mut e: usize = 0;
+    while e < n {
+        if alone_at_fault(Edge::at(edges, e)) {
+            return e;
+        }
+        e += 1;
+    }
+    n
+}
+
+// 5, 16 and 6 of a list that passes 2, for calls that don't ask for an order of the edges.
+pub fn check_alone(edges: &[i32]) -> Check
+    requires { ⌜ edgesIn (now edges) ≤ mostEdges ⌝ }
+    ensures { λ r. ⌜ r ≡ edgesAloneChecked (now (edges .entry)) ⌝ }
+{
+    let n = edges.len() / Edge::NUMBERS;
+    let fault = first_alone(edges, n);
+    if fault < n {
+        return Check::Refused(fault_of(edges, fault));
+    }
+    Check::Passed
 }
 
 // 5, 16, 6 and 7 of a list that passes 2.

@@ -1,0 +1,113 @@
+// 11 to 14 and 24: whether a turn list is the one that the numbers give. A right one is its own witness, so one pass settles it; only a wrong one costs the
+// sort that says what is wrong.
+use crate::CutRefusal;
+use sheet::Edge;
+use sheet::TurnAnswer;
+use sheet::TurnRefusal;
+ghost use mathlib.Core.Path.{_≡_};
+ghost use mathlib.Core.Bool.{true};
+ghost use Prim.Native.Nat.{_≤_};
+ghost use lib.ListN.{length};
+ghost use Rattle.laws.specs.Counting.{first};
+ghost use Rattle.sheet.specs.Amounts.{mostEdges};
+ghost use Rattle.sheet.specs.TurnList.{numberLists};
+ghost use Rattle.cutter.specs.Instructed.{turnDiffers};
+ghost use Rattle.cutter.specs.Runs.{Runs};
+ghost use Rattle.cutter.specs.Turning.{comesNext, Turns};
+
+// What stands before the first pair: polygon 0, with a sequence number that none comes behind.
+const NO_SEQUENCE: u32 = 4_294_967_295;
+
+pub enum Turning {
+    Passed,
+    Refused(CutRefusal),
+}
+
+// Whether the second pair comes right behind the first.
+fn comes_next(polygon: u32, sequence: u32, next_polygon: u32, next_sequence: u32) -> bool
+    ensures { λ r. ⌜ r ≡ comesNext polygon sequence next_polygon next_sequence ⌝ }
+{
+    if next_sequence == 0 {
+        if next_polygon == 0 {
+            return false;
+        }
+        return next_polygon - 1 == polygon;
+    }
+    if next_polygon != polygon {
+        return false;
+    }
+    next_sequence - 1 == sequence
+}
+
+// Whether the numbers run along the turn list from edge to edge, as they do along the right one and no other.
+fn runs(polygons: &[u32], sequences: &[u32], turns: &[u32]) -> bool
+    requires { ⌜ (length (now sequences) ≡ length (now polygons)) × (length (now turns) ≡ length (now polygons)) ⌝ }
+    ensures { λ r. ⌜ (r ≡ true → Runs (numberLists (now (polygons .entry)) (now (sequences .entry))) (now (turns .entry))) ⌝ }
+{
+    let n = turns.len();
+    let mut polygon: u32 = 0;
+    let mut sequence: u32 = NO_SEQUENCE;
+    let mut i: usize = 0;
+    while i < n {
+        let e = turns[i] as usize;
+        if n <= e {
+            return false;
+        }
+        if !comes_next(polygon, sequence, polygons[e], sequences[e]) {
+            return false;
+        }
+        polygon = polygons[e];
+        sequence = sequences[e];
+        i += 1;
+    }
+    true
+}
+
+// 24: the first position where the turn list differs from the right one, its length where there is none.
+fn first_different(turns: &[u32], right: &[u32]) -> usize
+    requires { ⌜ length (now turns) ≤ length (now right) ⌝ }
+    ensures { λ r. ⌜ r ≡ first (turnDiffers (now (turns .entry)) (now (right .entry))) (length (now (turns .entry))) ⌝ }
+{
+    let mut i: usize = 0;
+    while i < turns.len() {
+        if turns[i] != right[i] {
+            return i;
+        }
+        i += 1;
+    }
+    i
+}
+
+// 12 to 14 and 24 with the right turn list made anew in the room that is lent.
+fn compare(polygons: &[u32], sequences: &[u32], turns: &[u32], room: &mut [u32]) -> Turning
+{
+    let n = turns.len();
+    let right = &mut room[..n];
+    if let TurnAnswer::Refused(refusal) = turns::turn_list(polygons, sequences, right) {
+        return Turning::Refused(CutRefusal::Numbers(refusal));
+    }
+    let different = first_different(turns, right);
+    if different < n {
+        return Turning::Refused(CutRefusal::TurnsDiffer(different as u32));
+    }
+    Turning::Passed
+}
+
+// 11 to 14 and 24 of lists for n edges.
+pub fn check(polygons: &[u32], sequences: &[u32], turns: &[u32], n: usize) -> Turning
+{
+    if polygons.len() != n {
+        return Turning::Refused(CutRefusal::Numbers(TurnRefusal::TurnLengths));
+    }
+    if sequences.len() != n {
+        return Turning::Refused(CutRefusal::Numbers(TurnRefusal::TurnLengths));
+    }
+    if turns.len() != n {
+        return Turning::Refused(CutRefusal::Numbers(TurnRefusal::TurnLengths));
+    }
+    if runs(polygons, sequences, turns) {
+        return Turning::Passed;
+    }
+    let mut room = [0u32; Edge::MOST];
+    compare(polygons, sequences, turns, &mut room)
+}
