@@ -6,5 +6,4 @@ pub mod Passes
 pub mod CutInOrder
 pub mod Assembling
 pub mod OneOutcome
-pub mod Neighbours
 pub mod Worked

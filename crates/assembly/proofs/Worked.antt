@@ -12,9 +12,9 @@ use Rattle.sheet.specs.declared.Answer.{Answer}
 use Rattle.sheet.specs.TurnList.{NumberLists, numberLists, Before, TurnList}
 use Rattle.numbering.specs.Outcome.{Left}
 use Rattle.numbering.proofs.Worked.{lentFor, two-touching, all-worked}
+use Rattle.turns.proofs.Neighbours.{neighbours-turn-list}
 use Rattle.turns.proofs.OneTurnList.{one-turn-list}
 use Rattle.assembly.specs.Assembled.{Assembled}
-use Rattle.assembly.proofs.Neighbours.{neighbours-turn-list}
 
 abbrev touchingNumbers : NumberLists
 touchingNumbers = numberLists (2 ∷ 2 ∷ 1 ∷ 2 ∷ 2 ∷ 1 ∷ 1 ∷ []) (1 ∷ 2 ∷ 1 ∷ 3 ∷ 0 ∷ 2 ∷ 0 ∷ [])

@@ -6,3 +6,4 @@ pub mod Gaps
 pub mod Answering
 pub mod Accepting
 pub mod OneTurnList
+pub mod Neighbours
