@@ -3,3 +3,9 @@ pub mod AlongRun
 pub mod RunIsTurnList
 pub mod TurnListRuns
 pub mod RightTurns
+pub mod Limits
+pub mod Places
+pub mod Drawings
+pub mod ReadBack
+pub mod Heads
+pub mod Cuttable

@@ -1,0 +1,16 @@
+-- The instructions of either machine for outlines in range and closed are good to cut by.
+use mathlib.Core.List.{List}
+use Rattle.cutter.specs.declared.machines.Machine.{Machine}
+use Rattle.cutter.specs.Places.{placeFor, pointAt}
+use Rattle.cutter.specs.Programme.{Outline, Cuttable}
+use Rattle.cutter.proofs.Places.{point-back}
+use Rattle.cutter.proofs.Drawings.{Drawn, AllClosed}
+use Rattle.cutter.proofs.ReadBack.{outlines-back}
+use Rattle.cutter.proofs.Heads.{orderly, stands}
+
+pub cuttable : (m : Machine) (os : List Outline) → Drawn os → AllClosed os → Cuttable (placeFor m) (pointAt m) os
+cuttable m os drawn closed = record {
+  read-back = outlines-back (placeFor m) (pointAt m) (point-back m) os drawn;
+  orderly = orderly (placeFor m) os;
+  stands = stands (placeFor m) os closed;
+}

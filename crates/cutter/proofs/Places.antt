@@ -1,0 +1,55 @@
+-- A place is exact: each of its numbers is a whole number of 64ths, which has a float of its own. So the point is read back from its place on either
+-- machine, and no number is minus zero, which is no whole number's float. Some values are worked to the bit.
+use mathlib.Core.Path.{_≡_, refl, sym}
+use mathlib.Core.Bool.{true, false, false≢true}
+use Prim.Native.Nat.{_≤_, suc, _*_}
+use native.Mathlib.Omega.{arith}
+use lib.IntN.{ℤ, pos, negsuc, negℤ, natAbs, negℤ-negℤ}
+use lib.Ieee.{Float, fin, binary32, round, ofBits, toBits, div}
+use Rattle.sheet.specs.declared.Point.{Point}
+use Rattle.sheet.specs.Points.{inRange}
+use Rattle.singles.specs.Singles.{Exactly, single, read}
+use Rattle.singles.proofs.SixtyFourths.{sixty-fourth-exact, over-64}
+use Rattle.singles.proofs.ReadingBack.{read-exactly}
+use Rattle.cutter.specs.declared.machines.Machine.{Machine}
+use Rattle.cutter.specs.declared.machines.Machine.the-variants.{Flatbed, RollFeeder}
+use Rattle.cutter.specs.declared.machines.Place.{Place}
+use Rattle.cutter.specs.Places.{millimetresOf, placeFor, pointAt}
+use Rattle.cutter.proofs.Limits.{x-limit, y-limit, negated-limit}
+
+module _ (v : ℤ) (h : natAbs v ≤ 1000000) where
+  -- what the code works out: the literal is 64
+  pub by-quotient : div binary32 (single v 1) (ofBits binary32 0x4280_0000) ≡ millimetresOf v
+  unfolding ofBits millimetresOf
+  by-quotient = over-64 v (omega (arith, h))
+
+  pub exact : Exactly (millimetresOf v) v 64
+  unfolding millimetresOf
+  exact = sixty-fourth-exact v (omega (arith, h))
+
+  units-back : read 64 (millimetresOf v) ≡ v
+  units-back = read-exactly (millimetresOf v) v 64 exact
+
+negated-back : (v : ℤ) → natAbs v ≤ 1000000 → negℤ (read 64 (millimetresOf (negℤ v))) ≡ v
+negated-back v h = rw (units-back (negℤ v) (negated-limit v h)) (negℤ-negℤ v)
+
+pub point-back : (m : Machine) (p : Point) → inRange p ≡ true → pointAt m (placeFor m p) ≡ p
+unfolding placeFor pointAt
+point-back Flatbed p t = λ i. record { x = units-back (p .x) (x-limit p t) i; y = units-back (p .y) (y-limit p t) i }
+point-back RollFeeder p t = λ i. record { x = negated-back (p .x) (x-limit p t) i; y = units-back (p .y) (y-limit p t) i }
+
+-- ---- minus zero
+abbrev minusZero : Float
+minusZero = fin true 0 (pos 0)
+
+no-number : (z : ℤ) → Exactly minusZero z 64 → ⊥
+no-number (pos n) v = false≢true (sym (v .0))
+no-number (negsuc n) v = let e : 0 * 1 * 64 ≡ suc n * 1 = v .1 in omega (arith, e)
+
+not-minus-zero : (v : ℤ) → natAbs v ≤ 1000000 → millimetresOf v ≡ minusZero → ⊥
+not-minus-zero v h e = no-number v (rw e at (exact v h))
+
+pub never-minus-zero : (m : Machine) (p : Point) → inRange p ≡ true → (placeFor m p .first ≡ minusZero → ⊥) × (placeFor m p .second ≡ minusZero → ⊥)
+unfolding placeFor
+never-minus-zero Flatbed p t = (not-minus-zero (p .x) (x-limit p t), not-minus-zero (p .y) (y-limit p t))
+never-minus-zero RollFeeder p t = (not-minus-zero (p .y) (y-limit p t), not-minus-zero (negℤ (p .x)) (negated-limit (p .x) (x-limit p t)))
