@@ -1,9 +1,9 @@
 -- What the instructions make of the head. From the travel to the lift there are cuts only, one for each head of the outline. Each cut leaves the blade down
 -- at its place, whatever was before; so a closed outline's last cut has it down at the start, and the lift raises it there.
-use mathlib.Core.Path.{_≡_, refl, ap, _∙_}
+use mathlib.Core.Path.{_≡_, ap}
 use mathlib.Core.Bool.{true, false}
 use mathlib.Core.List.{List, [], _∷_, _++_}
-use Prim.Native.Nat.{_+_, suc}
+use Prim.Native.Nat.{_+_}
 use native.Mathlib.Omega.{arith}
 use lib.ListN.{length}
 use Rattle.sheet.specs.declared.Point.{Point}

@@ -9,3 +9,4 @@ pub mod Drawings
 pub mod ReadBack
 pub mod Heads
 pub mod Cuttable
+pub mod WorkedTriangle

@@ -1,8 +1,8 @@
 -- A place is exact: each of its numbers is a whole number of 64ths, which has a float of its own. So the point is read back from its place on either
 -- machine, and no number is minus zero, which is no whole number's float. Some values are worked to the bit.
 use mathlib.Core.Path.{_≡_, refl, sym}
-use mathlib.Core.Bool.{true, false, false≢true}
-use Prim.Native.Nat.{_≤_, suc, _*_}
+use mathlib.Core.Bool.{true, false≢true}
+use Prim.Native.Nat.{ℕ, suc, _*_, _≤_}
 use native.Mathlib.Omega.{arith}
 use lib.IntN.{ℤ, pos, negsuc, negℤ, natAbs, negℤ-negℤ}
 use lib.Ieee.{Float, fin, binary32, round, ofBits, toBits, div}
@@ -13,7 +13,6 @@ use Rattle.singles.proofs.SixtyFourths.{sixty-fourth-exact, over-64}
 use Rattle.singles.proofs.ReadingBack.{read-exactly}
 use Rattle.cutter.specs.declared.machines.Machine.{Machine}
 use Rattle.cutter.specs.declared.machines.Machine.the-variants.{Flatbed, RollFeeder}
-use Rattle.cutter.specs.declared.machines.Place.{Place}
 use Rattle.cutter.specs.Places.{millimetresOf, placeFor, pointAt}
 use Rattle.cutter.proofs.Limits.{x-limit, y-limit, negated-limit}
 
@@ -53,3 +52,31 @@ pub never-minus-zero : (m : Machine) (p : Point) → inRange p ≡ true → (pla
 unfolding placeFor
 never-minus-zero Flatbed p t = (not-minus-zero (p .x) (x-limit p t), not-minus-zero (p .y) (y-limit p t))
 never-minus-zero RollFeeder p t = (not-minus-zero (p .y) (y-limit p t), not-minus-zero (negℤ (p .x)) (negated-limit (p .x) (x-limit p t)))
+
+-- ---- worked values
+bits : ℤ → ℕ
+bits v = toBits binary32 (millimetresOf v)
+
+record Bits : Type 0 where
+  zero : bits (pos 0) ≡ 0
+  one-unit : bits (pos 1) ≡ 0x3c80_0000
+  minus-one-unit : bits (negsuc 0) ≡ 0xbc80_0000
+  most : bits (pos 1000000) ≡ 0x4674_2400
+  least : bits (negsuc 999999) ≡ 0xc674_2400
+  many-digits : bits (pos 999999) ≡ 0x4674_23f0
+
+worked-bits : Bits
+unfolding bits millimetresOf single round toBits
+worked-bits = record { zero = refl; one-unit = refl; minus-one-unit = refl; most = refl; least = refl; many-digits = refl }
+
+-- the point (0, -3): on the roll feeder -0 stays plus zero
+onAxis : Point
+onAxis = record { x = pos 0; y = negsuc 2 }
+
+record OnAxis : Type 0 where
+  flatbed : placeFor Flatbed onAxis ≡ record { first = ofBits binary32 0; second = ofBits binary32 0xbd40_0000 }
+  roll-feeder : placeFor RollFeeder onAxis ≡ record { first = ofBits binary32 0xbd40_0000; second = ofBits binary32 0 }
+
+worked-point : OnAxis
+unfolding onAxis placeFor millimetresOf single round ofBits
+worked-point = record { flatbed = refl; roll-feeder = refl }
