@@ -1,5 +1,4 @@
 -- `millimetres` meets its contract: the whole number is exact as a float, and so is its quotient by 64.
-use mathlib.Core.Path.{refl}
 use native.Mathlib.Omega.{arith}
 use mir.Syntax.{w32}
 use mir.ValLaws.{toZ-ofZ}
@@ -13,7 +12,8 @@ whole-requires c κs = rw (toZ-ofZ w32 (c .args .v) (c .fits .v)) (omega (arith,
 returns : tie.Need-returns
 returns c =
     let v = c .before .args .v in
-    rw (c .whole .ensures .0, toZ-ofZ w32 v (c .before .fits .v), by-quotient v (c .before .pre)) (refl, exact v (c .before .pre))
+    let quotient = by-quotient v (c .before .pre) in
+    rw (c .whole .ensures .0, toZ-ofZ w32 v (c .before .fits .v)) (quotient, rw quotient (exact v (c .before .pre)))
 
 pub millimetres-spec : {M : Type 1} → statement M
 millimetres-spec = tie.close (tie.spec whole-requires returns)
