@@ -1,5 +1,5 @@
--- 5, 16, 6 and 7 at an edge. Tested against the edge before it, an edge has a fault where the answer sheet says so: no point of the range is below
--- the lowest one, which stands before the first edge. An edge without a fault has two ends, both in the range, a film, and a top that does not fall.
+-- 5, 16, 6 and 7 at an edge. Tested by itself or against the edge before it, an edge has a fault where the answer sheet says so: no point of the range
+-- is below the lowest one, which stands before the first edge. An edge without a fault has two ends, both in the range, a film, and a top that does not fall.
 use mathlib.Core.Path.{_≡_, refl, sym, ap, _∙_}
 use mathlib.Core.Bool.{Bool, true, false, cond, _||_}
 use mathlib.Core.List.{List}
@@ -16,7 +16,8 @@ use Rattle.sheet.specs.declared.Edge.{Edge}
 use Rattle.sheet.specs.Points.{sameZ, within, inRange, isFilm, isSame, isBelow, isUp, topOf, bottomOf}
 use Rattle.sheet.specs.Edges.{edgeAt}
 use Rattle.sheet.specs.Answers.{pastRange, filmPastRange, equalEnds, topFalls, edgeFault}
-use Rattle.checks.specs.Faults.{endPastRange, filmPast, endsEqual, beforeFirst, faultAfter, edgeBefore, EndsFit}
+use Rattle.checks.specs.Faults.{endPastRange, filmPast, endsEqual, faultAlone, topBelow, beforeFirst, faultAfter, edgeBefore, EndsFit}
+use Rattle.checks.specs.Stages.{aloneFault}
 
 not-under : (z : ℤ) → within z ≡ true → ltZ z (negsuc 999999) ≡ false
 unfolding within
@@ -48,15 +49,30 @@ ends-in-range : (e : Edge) → endPastRange e ≡ false → (inRange (e .tail) �
 unfolding endPastRange
 ends-in-range e h = both-true (inRange (e .tail)) (inRange (e .head)) (not-false _ h)
 
+-- an edge by itself has a fault where the answer sheet says so
+alone-fault : (s : List ℤ) (e : ℕ) → faultAlone (edgeAt s e) ≡ aloneFault s e
+unfolding faultAlone endPastRange pastRange filmPastRange equalEnds
+alone-fault s e = refl
+
+-- 7 is tried last
+seven-last : (past film equal below : Bool) → ((past || (film || equal)) || below) ≡ (past || (film || (equal || below)))
+seven-last true film equal below = refl
+seven-last false true equal below = refl
+seven-last false false equal below = refl
+
 -- the top of the first edge is not below the lowest point, unless it is out of the range
+top-after : (s : List ℤ) (e : ℕ) → pastRange s e ≡ false → topBelow (edgeAt s e) (edgeBefore s e) ≡ topFalls s e
+unfolding edgeBefore topFalls endPastRange pastRange
+top-after s zero h = let w = ends-in-range (edgeAt s 0) h in not-below-lowest _ (top-in-range (edgeAt s 0) (w .0) (w .1))
+top-after s (suc e) h = refl
+
 pub fault-after : (s : List ℤ) (e : ℕ) → faultAfter (edgeBefore s e) (edgeAt s e) ≡ edgeFault s e
-unfolding faultAfter edgeBefore endPastRange pastRange filmPastRange equalEnds topFalls
-fault-after s zero = by (endPastRange (edgeAt s 0)) (filmPast (edgeAt s 0)) (endsEqual (edgeAt s 0)) (λ h. let w = ends-in-range (edgeAt s 0) h in not-below-lowest _ (top-in-range (edgeAt s 0) (w .0) (w .1)))
+unfolding faultAfter
+fault-after s e = ap (λ (b : Bool). b || topBelow (edgeAt s e) (edgeBefore s e)) (alone-fault s e) ∙ seven-last (pastRange s e) (filmPastRange s e) (equalEnds s e) _ ∙ by (pastRange s e) (filmPastRange s e) (equalEnds s e) (top-after s e)
   where
-    by : (past film equal : Bool) {below : Bool} → (past ≡ false → below ≡ false) → (past || (film || (equal || below))) ≡ (past || (film || (equal || false)))
+    by : (past film equal : Bool) {below falls : Bool} → (past ≡ false → below ≡ falls) → (past || (film || (equal || below))) ≡ (past || (film || (equal || falls)))
     by true film equal h = refl
     by false film equal h = ap (λ (b : Bool). film || (equal || b)) (h refl)
-fault-after s (suc e) = refl
 
 -- the edge before the next one
 pub edge-before-next : (s : List ℤ) (e : ℕ) → edgeBefore s (e + 1) ≡ edgeAt s e
@@ -65,20 +81,26 @@ edge-before-next s e = rw add-one
 
 -- what the tests answer of an edge that was read
 module _ (s : List ℤ) (e : ℕ) {edge : Edge} {r : Bool} (read : edge ≡ edgeAt s e) where
+  told : (test : Edge → Bool) → r ≡ test edge → test (edgeAt s e) ≡ r
+  told test h = ap test (sym read) ∙ sym h
+
   pub fault-told : {before : Edge} → before ≡ edgeBefore s e → r ≡ faultAfter before edge → edgeFault s e ≡ r
-  fault-told b h = sym (fault-after s e) ∙ ap (λ (f : Edge). faultAfter f (edgeAt s e)) (sym b) ∙ ap (faultAfter _) (sym read) ∙ sym h
+  fault-told b h = sym (fault-after s e) ∙ ap (λ (f : Edge). faultAfter f (edgeAt s e)) (sym b) ∙ told (faultAfter _) h
+
+  pub alone-told : r ≡ faultAlone edge → aloneFault s e ≡ r
+  alone-told h = sym (alone-fault s e) ∙ told faultAlone h
 
   pub past-told : r ≡ endPastRange edge → pastRange s e ≡ r
   unfolding pastRange endPastRange
-  past-told h = ap endPastRange (sym read) ∙ sym h
+  past-told h = told endPastRange h
 
   pub film-told : r ≡ filmPast edge → filmPastRange s e ≡ r
   unfolding filmPastRange
-  film-told h = ap filmPast (sym read) ∙ sym h
+  film-told h = told filmPast h
 
   pub equal-told : r ≡ endsEqual edge → equalEnds s e ≡ r
   unfolding equalEnds
-  equal-told h = ap endsEqual (sym read) ∙ sym h
+  equal-told h = told endsEqual h
 
 -- 5, 16, 6 and 7 one by one
 pub none-of : (s : List ℤ) (e : ℕ) → edgeFault s e ≡ false → (pastRange s e ≡ false) × (filmPastRange s e ≡ false) × (equalEnds s e ≡ false) × (topFalls s e ≡ false)
