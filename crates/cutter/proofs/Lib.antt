@@ -10,3 +10,6 @@ pub mod ReadBack
 pub mod Heads
 pub mod Cuttable
 pub mod WorkedTriangle
+pub mod Standing
+pub mod KthInstruction
+pub mod Rounds

@@ -9,15 +9,8 @@ use native.Mathlib.Omega.{arith}
 use lib.ListN.{getD}
 use Rattle.laws.proofs.Deciding.{lt-or-le}
 use Rattle.sheet.specs.TurnList.{NumberLists, Before, TurnList, GoodNumbering}
-use Rattle.turns.proofs.OneTurnList.{every-edge}
+use Rattle.turns.proofs.OneTurnList.{not-each-before, every-edge}
 use Rattle.cutter.specs.Runs.{Onward, Runs}
-
--- of two edges not each comes before the other
-one-way : (v : NumberLists) (e f : ℕ) → Before v e f → Before v f e → ⊥
-one-way v e f (inl a) (inl b) = omega arith
-one-way v e f (inl a) (inr b) = omega arith
-one-way v e f (inr a) (inl b) = omega arith
-one-way v e f (inr a) (inr b) = omega arith
 
 at-most : (a b : ℕ) → (a < b → ⊥) → b ≤ a
 at-most a b h = ⊎-elim (λ l. absurd (h l)) (λ l. l) (lt-or-le a b)
@@ -31,10 +24,10 @@ module _ {v : NumberLists} {turns : List ℕ} (T : TurnList v turns) where
   stands-earlier i j l m b = ⊎-elim (λ h. h) (λ h. absurd (⊎-elim later (λ g. same (omega arith)) (lt-or-le j i))) (lt-or-le i j)
     where
       later : j < i → ⊥
-      later g = one-way v _ _ b (T .in-order j i g l)
+      later g = not-each-before v _ _ b (T .in-order j i g l)
 
       same : i ≡ j → ⊥
-      same q = let s = rw q at b in one-way v _ _ s s
+      same q = let s = rw q at b in not-each-before v _ _ s s
 
   none-first : (e : ℕ) → e < v .edges → 0 < v .edges → Before v e (turn 0) → ⊥
   none-first e l m b =

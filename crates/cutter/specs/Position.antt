@@ -1,8 +1,8 @@
 -- Where an instruction stands in the whole list, told by the positions of the turn list.
-use Prim.Native.Nat.{ℕ, suc, _+_, _-_, _*_}
-use mathlib.Core.Bool.{cond}
+use Prim.Native.Nat.{ℕ, _+_, _-_, _*_}
+use mathlib.Core.Bool.{Bool, true, cond}
 use mathlib.Core.List.{List}
-use lib.Dec.{eqb}
+use lib.Dec.{eqb, ltb}
 use lib.ListN.{length, getD}
 use Rattle.sheet.specs.declared.Edge.{Edge}
 use Rattle.cutter.specs.declared.machines.Machine.{Machine}
@@ -15,9 +15,9 @@ use Rattle.cutter.specs.Blade.{travelTo, cutTo}
 unfoldable pub upToCut : List ℕ → List ℕ → ℕ → ℕ
 upToCut polygons turns i = i + 2 * getD polygons (getD turns i 0) 0
 
--- all of them: behind the last cut comes one lift
-unfoldable pub allInstructions : List ℕ → List ℕ → ℕ
-allInstructions polygons turns = cond (eqb (length turns) 0) 0 (upToCut polygons turns (length turns - 1) + 1)
+-- 18: behind the last cut comes one lift and nothing more
+unfoldable pub pastLast : List ℕ → List ℕ → ℕ → Bool
+pastLast polygons turns k = cond (eqb (length turns) 0) true (ltb (upToCut polygons turns (length turns - 1)) k)
 
 -- the last one up to an edge's cut, the one before it, the one before that
 unfoldable pub beforeEnd : Machine → Edge → ℕ → Instruction

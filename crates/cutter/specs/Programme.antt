@@ -4,7 +4,6 @@ use mathlib.Core.Path.{_≡_}
 use mathlib.Core.Bool.{Bool, true, false}
 use mathlib.Core.List.{List, [], _∷_, _++_}
 use Rattle.sheet.specs.declared.Point.{Point}
-use Rattle.sheet.specs.Points.{inRange}
 use Rattle.cutter.specs.declared.machines.Place.{Place}
 use Rattle.cutter.specs.declared.blade.Head.{Head}
 use Rattle.cutter.specs.declared.blade.Instruction.{Instruction}

@@ -17,7 +17,7 @@ ghost use Rattle.cutter.specs.Places.{placeFor};
 ghost use Rattle.cutter.specs.Programme.{programme};
 ghost use Rattle.cutter.specs.Outlines.{outlinesOf};
 ghost use Rattle.cutter.specs.Instructed.{kth};
-ghost use Rattle.cutter.specs.Position.{upToCut, allInstructions, beforeEnd};
+ghost use Rattle.cutter.specs.Position.{upToCut, pastLast, beforeEnd};
 ghost use Rattle.cutter.specs.Joined.{Within, Drawable};
 
 // How many instructions there are up to the cut of the edge at a position: a cut for each position so far, a travel for each polygon that was begun and a
@@ -46,16 +46,16 @@ fn position_of(polygons: &[u32], turns: &[u32], k: usize) -> usize
     n
 }
 
-// How many instructions there are: behind the last cut comes one lift.
-fn instructions(polygons: &[u32], turns: &[u32]) -> usize
+// 18: behind the last cut comes one lift and nothing more.
+fn past_last(polygons: &[u32], turns: &[u32], k: usize) -> bool
     requires { ⌜ Within (now polygons) (now turns) ⌝ }
-    ensures { λ r. ⌜ r ≡ allInstructions (now (polygons .entry)) (now (turns .entry)) ⌝ }
+    ensures { λ r. ⌜ r ≡ pastLast (now (polygons .entry)) (now (turns .entry)) k ⌝ }
 {
     let n = turns.len();
     if n == 0 {
-        return 0;
+        return true;
     }
-    up_to_cut(polygons, turns, n - 1) + 1
+    up_to_cut(polygons, turns, n - 1) < k
 }
 
 // The instruction that comes some before the end of those up to the cut of a position: the cut is the last of them, before it comes the travel where an
@@ -85,7 +85,7 @@ pub fn instruction_at(
     requires { ⌜ Drawable (now edges) (now polygons) (now sequences) (now turns) ⌝ }
     ensures { λ r. ⌜ r ≡ kth (programme (placeFor machine) (outlinesOf (now (edges .entry)) (now (sequences .entry)) (now (turns .entry)))) k ⌝ }
 {
-    if instructions(polygons, turns) <= k {
+    if past_last(polygons, turns, k) {
         return Step::Refused(CutRefusal::PastLast);
     }
     let i = position_of(polygons, turns, k);

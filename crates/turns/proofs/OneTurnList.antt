@@ -20,7 +20,7 @@ use Rattle.sheet.specs.declared.TurnAnswer.{TurnAnswer}
 use Rattle.sheet.specs.declared.TurnAnswer.the-variants.{Accepted, Refused}
 use Rattle.sheet.specs.TurnList.{NumberLists, Before, TurnList, TurnsAfter}
 
-not-each-before : (v : NumberLists) (e f : ℕ) → Before v e f → Before v f e → ⊥
+pub not-each-before : (v : NumberLists) (e f : ℕ) → Before v e f → Before v f e → ⊥
 not-each-before v e f a b = ⊎-elim
     (λ p. ⊎-elim (λ q. omega (arith, p, q)) (λ q. omega (arith, p, q)) b)
     (λ p. ⊎-elim (λ q. omega (arith, p, q)) (λ q. omega (arith, p, q)) b)
