@@ -13,3 +13,6 @@ pub mod WorkedTriangle
 pub mod Standing
 pub mod KthInstruction
 pub mod Rounds
+pub mod Running
+pub mod SomeTurnList
+pub mod TurnsTried

@@ -13,7 +13,7 @@ ghost use Rattle.sheet.specs.Amounts.{mostEdges};
 ghost use Rattle.sheet.specs.TurnList.{numberLists};
 ghost use Rattle.cutter.specs.Instructed.{turnDiffers};
 ghost use Rattle.cutter.specs.Runs.{Runs};
-ghost use Rattle.cutter.specs.Turning.{comesNext, Turns};
+ghost use Rattle.cutter.specs.Turning.{comesNext, TurnsChecked};
 
 // What stands before the first pair: polygon 0, with a sequence number that none comes behind.
 const NO_SEQUENCE: u32 = 4_294_967_295;
@@ -23,20 +23,20 @@ pub enum Turning {
     Refused(CutRefusal),
 }
 
-// Whether the second pair comes right behind the first.
-fn comes_next(polygon: u32, sequence: u32, next_polygon: u32, next_sequence: u32) -> bool
-    ensures { λ r. ⌜ r ≡ comesNext polygon sequence next_polygon next_sequence ⌝ }
+// Whether polygon q, sequence t comes right behind polygon p, sequence s.
+fn comes_next(p: u32, s: u32, q: u32, t: u32) -> bool
+    ensures { λ r. ⌜ r ≡ comesNext p s q t ⌝ }
 {
-    if next_sequence == 0 {
-        if next_polygon == 0 {
+    if t == 0 {
+        if q == 0 {
             return false;
         }
-        return next_polygon - 1 == polygon;
+        return q - 1 == p;
     }
-    if next_polygon != polygon {
+    if q != p {
         return false;
     }
-    next_sequence - 1 == sequence
+    t - 1 == s
 }
 
 // Whether the numbers run along the turn list from edge to edge, as they do along the right one and no other.
@@ -68,18 +68,21 @@ fn first_different(turns: &[u32], right: &[u32]) -> usize
     requires { ⌜ length (now turns) ≤ length (now right) ⌝ }
     ensures { λ r. ⌜ r ≡ first (turnDiffers (now (turns .entry)) (now (right .entry))) (length (now (turns .entry))) ⌝ }
 {
+    let n = turns.len();
     let mut i: usize = 0;
-    while i < turns.len() {
+    while i < n {
         if turns[i] != right[i] {
             return i;
         }
         i += 1;
     }
-    i
+    n
 }
 
 // 12 to 14 and 24 with the right turn list made anew in the room that is lent.
 fn compare(polygons: &[u32], sequences: &[u32], turns: &[u32], room: &mut [u32]) -> Turning
+    requires { ⌜ (length (now sequences) ≡ length (now polygons)) × (length (now turns) ≡ length (now polygons)) × (length (now polygons) ≤ mostEdges) × (length (now polygons) ≤ length (now room)) ⌝ }
+    ensures { λ r. ⌜ TurnsChecked (now (polygons .entry)) (now (sequences .entry)) (now (turns .entry)) (length (now (polygons .entry))) r ⌝ }
 {
     let n = turns.len();
     let right = &mut room[..n];
@@ -93,8 +96,10 @@ fn compare(polygons: &[u32], sequences: &[u32], turns: &[u32], room: &mut [u32])
     Turning::Passed
 }
 
-// 11 to 14 and 24 of lists for n edges.
+// 11 to 14 and 24 of lists for n edges. The room of the right turn list takes 16 KB of stack.
 pub fn check(polygons: &[u32], sequences: &[u32], turns: &[u32], n: usize) -> Turning
+    requires { ⌜ n ≤ mostEdges ⌝ }
+    ensures { λ r. ⌜ TurnsChecked (now (polygons .entry)) (now (sequences .entry)) (now (turns .entry)) n r ⌝ }
 {
     if polygons.len() != n {
         return Turning::Refused(CutRefusal::Numbers(TurnRefusal::TurnLengths));
