@@ -19,10 +19,10 @@ use Rattle.sheet.specs.declared.Check.the-variants.{Passed, Refused}
 use Rattle.sheet.specs.Edges.{edgesIn, drawingOf}
 use Rattle.sheet.specs.Answers.{Call, notWhole, tooMany, listsDiffer, journalShort, edgeFault, faultOf, repeats, uneven, refuseIf, refuseFirst, checked}
 use Rattle.checks.specs.declared.places.AtFault.{AtFault}
-use Rattle.checks.specs.Stages.{andThen, listChecked, lengthsChecked, edgesChecked, placesChecked}
+use Rattle.checks.specs.Stages.{andThen, listChecked, lengthsChecked, edgesChecked, aloneFault, edgesAloneChecked, placesChecked}
 use Rattle.checks.specs.Faults.{EndsFit}
 use Rattle.checks.specs.Places.{firstAtFault}
-use Rattle.checks.proofs.EdgeFaults.{none-of}
+use Rattle.checks.proofs.EdgeFaults.{none-alone, none-of}
 use Rattle.sheet.specs.Amounts.{numbersPerEdge, journalNumbersPerEdge, mostEdges}
 
 pub by-stages : (c : Call) → andThen (lengthsChecked c) (andThen (edgesChecked (c .list)) (placesChecked (c .list))) ≡ checked c
@@ -124,13 +124,22 @@ pub few-edges : (s : List ℤ) → listChecked s ≡ Passed → edgesIn s ≤ mo
 unfolding listChecked
 few-edges s h = ltb-false _ _ (if-passed (ltb mostEdges (edgesIn s)) TooMany Passed (if-passed (not (eqb (length s % numbersPerEdge) 0)) NotWhole _ h .1) .0)
 
-no-fault : (s : List ℤ) → edgesChecked s ≡ Passed → NoneBelow (edgeFault s) (edgesIn s)
-unfolding edgesChecked
-no-fault s h k l = let m : edgesIn s ≤ first (edgeFault s) (edgesIn s) = ltb-false _ _ (if-passed (ltb (first (edgeFault s) (edgesIn s)) (edgesIn s)) (faultOf s (first (edgeFault s) (edgesIn s))) Passed h .0) in first-least (edgeFault s) (edgesIn s) k (omega arith)
+no-fault : (test : ℕ → Bool) (n : ℕ) (refusal : ℕ → Refusal) → refuseFirst test n refusal Passed ≡ Passed → NoneBelow test n
+no-fault test n refusal h k l = let m : n ≤ first test n = ltb-false _ _ (if-passed (ltb (first test n) n) (refusal (first test n)) Passed h .0) in first-least test n k (omega arith)
+
+alone-ends-fit : (s : List ℤ) → edgesIn s ≤ mostEdges → NoneBelow (aloneFault s) (edgesIn s) → EndsFit s (edgesIn s)
+unfolding edgesIn
+alone-ends-fit s few none = record { all = refl; few = few; long = omega arith; in-range = λ e l. none-alone s e (none e l) .0; on-film = λ e l. none-alone s e (none e l) .1; two-ends = λ e l. none-alone s e (none e l) .2 }
 
 pub ends-fit : (s : List ℤ) → edgesIn s ≤ mostEdges → NoneBelow (edgeFault s) (edgesIn s) → EndsFit s (edgesIn s)
-unfolding edgesIn
-ends-fit s few none = record { all = refl; few = few; long = omega arith; in-range = λ e l. none-of s e (none e l) .0; on-film = λ e l. none-of s e (none e l) .1; two-ends = λ e l. none-of s e (none e l) .2 }
+ends-fit s few none = alone-ends-fit s few (λ e l. let w = none-of s e (none e l) in rw (w .0, w .1, w .2) refl)
 
 pub checked-fit : (s : List ℤ) → listChecked s ≡ Passed → edgesChecked s ≡ Passed → EndsFit s (edgesIn s)
-checked-fit s few h = ends-fit s (few-edges s few) (no-fault s h)
+unfolding edgesChecked
+checked-fit s few h = ends-fit s (few-edges s few) (no-fault (edgeFault s) (edgesIn s) (faultOf s) h)
+
+pub alone-fit : (s : List ℤ) → andThen (listChecked s) (edgesAloneChecked s) ≡ Passed → EndsFit s (edgesIn s)
+unfolding edgesAloneChecked
+alone-fit s h =
+    let w = stage-passed (listChecked s) _ h in
+    alone-ends-fit s (few-edges s (w .0)) (no-fault (aloneFault s) (edgesIn s) (faultOf s) (w .1))

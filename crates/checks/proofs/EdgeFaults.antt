@@ -102,7 +102,13 @@ module _ (s : List ℤ) (e : ℕ) {edge : Edge} {r : Bool} (read : edge ≡ edge
   unfolding equalEnds
   equal-told h = told endsEqual h
 
--- 5, 16, 6 and 7 one by one
+-- 5, 16 and 6 one by one, and 7
+pub none-alone : (s : List ℤ) (e : ℕ) → aloneFault s e ≡ false → (pastRange s e ≡ false) × (filmPastRange s e ≡ false) × (equalEnds s e ≡ false)
+none-alone s e none =
+    let a = neither-true (pastRange s e) _ none in
+    let b = neither-true (filmPastRange s e) _ (a .1) in
+    (a .0, b .0, b .1)
+
 pub none-of : (s : List ℤ) (e : ℕ) → edgeFault s e ≡ false → (pastRange s e ≡ false) × (filmPastRange s e ≡ false) × (equalEnds s e ≡ false) × (topFalls s e ≡ false)
 none-of s e none =
     let a = neither-true (pastRange s e) _ none in

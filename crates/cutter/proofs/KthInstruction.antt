@@ -4,7 +4,7 @@
 use mathlib.Core.Path.{_≡_, refl, sym, ap, _∙_}
 use mathlib.Core.Bool.{true, false}
 use mathlib.Core.List.{List, [], _∷_}
-use mathlib.Core.Logic.{_⊎_, ⊎-elim, inl, inr}
+use mathlib.Core.Logic.{⊎-elim}
 use Prim.Native.Nat.{ℕ, zero, suc, _+_, _-_, _*_, _≤_, _<_}
 use native.Mathlib.Omega.{arith}
 use borrow.Author.Tests.{eq-eqb, ne-eqb, ltb-true, ltb-false}
@@ -27,8 +27,9 @@ use Rattle.cutter.specs.Blade.{travelTo, cutTo}
 use Rattle.cutter.specs.Programme.{cuts, programme}
 use Rattle.cutter.specs.Outlines.{headsOn, outlinesOf}
 use Rattle.cutter.specs.Instructed.{kth}
-use Rattle.cutter.specs.Runs.{Onward, RunsTo, Runs}
+use Rattle.cutter.specs.Runs.{Runs}
 use Rattle.cutter.specs.Position.{upToCut, pastLast, beforeEnd}
+use Rattle.cutter.proofs.RightTurns.{run-begins, run-onward}
 
 module _ (m : Machine) (list : List ℤ) (sequences : List ℕ) where
   abbrev all : List ℕ → List Instruction
@@ -80,19 +81,9 @@ module _ (m : Machine) (list : List ℤ) (polygons sequences turns : List ℕ) (
   rest : (i : ℕ) → i < n → drop i turns ≡ turn i ∷ drop (suc i) turns
   rest i l = drop-cons turns i 0 l
 
-  first-begins : 0 < n → (getD polygons (turn 0) 0 ≡ 1) × (getD sequences (turn 0) 0 ≡ 0)
-  unfolding numberLists
-  first-begins l = R .to-end .begins (omega (arith, l, R .size))
-
-  next-onward : (i : ℕ) → suc i < n
-      → ((getD polygons (turn (suc i)) 0 ≡ getD polygons (turn i) 0) × (getD sequences (turn (suc i)) 0 ≡ suc (getD sequences (turn i) 0)))
-      ⊎ ((getD polygons (turn (suc i)) 0 ≡ suc (getD polygons (turn i) 0)) × (getD sequences (turn (suc i)) 0 ≡ 0))
-  unfolding numberLists
-  next-onward i l = R .to-end .onward i (omega (arith, l, R .size))
-
   first-count : 0 < n → count 0 ≡ 2
   unfolding upToCut
-  first-count l = rw (first-begins l .0) refl
+  first-count l = rw (run-begins polygons sequences turns R l .0) refl
 
   count-on : (i : ℕ) → getD polygons (turn (suc i)) 0 ≡ getD polygons (turn i) 0 → count (suc i) ≡ suc (count i)
   unfolding upToCut
@@ -103,7 +94,7 @@ module _ (m : Machine) (list : List ℤ) (polygons sequences turns : List ℕ) (
   count-zero i q = rw q (omega arith)
 
   all-begun : 0 < n → all m list sequences turns ≡ travelOf m list sequences (turn 0) ∷ (cutOf m list sequences (turn 0) ∷ behind m list sequences (drop 1 turns))
-  all-begun l = ap (all m list sequences) (rest 0 l) ∙ begun m list sequences (turn 0) (drop 1 turns) (first-begins l .1)
+  all-begun l = ap (all m list sequences) (rest 0 l) ∙ begun m list sequences (turn 0) (drop 1 turns) (run-begins polygons sequences turns R l .1)
 
   -- behind the cut of position i
   from-cut : (i : ℕ) → i < n → (j : ℕ) → kth (all m list sequences turns) (j + count i) ≡ kth (behind m list sequences (drop (suc i) turns)) j
@@ -121,7 +112,7 @@ module _ (m : Machine) (list : List ℤ) (polygons sequences turns : List ℕ) (
       let k : j + count (suc i) ≡ suc (suc (suc j)) + count i = omega (arith, count-zero i (q .0)) in
       ap (kth (all m list sequences turns)) k ∙ from-cut i (omega arith) (suc (suc (suc j))) ∙ ap (λ (ts : List ℕ). kth (behind m list sequences ts) (suc (suc (suc j)))) (rest (suc i) l)
       ∙ ap (λ (is : List Instruction). kth is (suc (suc (suc j)))) (behind-zero m list sequences (turn (suc i)) (drop (suc (suc i)) turns) (q .1)))
-      (next-onward i l)
+      (run-onward polygons sequences turns R i l)
 
   -- the three that may come up to a cut
   the-cut : (e back : ℕ) → back ≡ 1 → Next (cutOf m list sequences e) ≡ Next (beforeEnd m (edgeAt list e) back)
@@ -161,7 +152,7 @@ module _ (m : Machine) (list : List ℤ) (polygons sequences turns : List ℕ) (
       ∙ ⊎-elim
       (λ o. at-on (turn (suc i)) (drop (suc (suc i)) turns) (λ e. absurd (omega (arith, e, o .1))) (k - count i) (count (suc i) - k) (omega (arith, a, b, count-on i (o .0))) (omega (arith, a, b, count-on i (o .0))))
       (λ o. at-zero (turn (suc i)) (drop (suc (suc i)) turns) (o .1) (k - count i) (count (suc i) - k) (omega (arith, a, b, count-zero i (o .0))) (omega (arith, a, b, count-zero i (o .0))))
-      (next-onward i l)
+      (run-onward polygons sequences turns R i l)
 
   -- the instruction at k, by the first position whose count passes it
   at-position : (i : ℕ) → i < n → (k : ℕ) → ((h : ℕ) → h < i → count h ≤ k) → k < count i → Next (beforeEnd m (edgeAt list (turn i)) (count i - k)) ≡ kth (all m list sequences turns) k
@@ -200,8 +191,8 @@ module _ (m : Machine) (list : List ℤ) (polygons sequences turns : List ℕ) (
   unfolding pastLast
   when-lift k f g = ⊎-elim
       (λ l.
-      let here = ltb-false _ _ (rw (ne-eqb n 0 (λ q. absurd (omega (arith, q, l)))) at f) in
-      let there = ltb-false _ _ (first-least (λ i. ltb k (count i)) n (n - 1) (omega (arith, l, g))) in
+      let here : k ≤ count (n - 1) = ltb-false (count (n - 1)) k (rw (ne-eqb n 0 (λ q. absurd (omega (arith, q, l)))) at f) in
+      let there : count (n - 1) ≤ k = ltb-false k (count (n - 1)) (first-least (λ i. ltb k (count i)) n (n - 1) (omega (arith, l, g))) in
       last-lift (n - 1) k (omega (arith, l)) (omega (arith, here, there)))
       (λ l. absurd (not-both refl (rw (eq-eqb n 0 (omega (arith, l))) at f)))
       (lt-or-le 0 n)

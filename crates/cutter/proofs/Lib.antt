@@ -16,3 +16,5 @@ pub mod Rounds
 pub mod Running
 pub mod SomeTurnList
 pub mod TurnsTried
+pub mod Closing
+pub mod Instructing

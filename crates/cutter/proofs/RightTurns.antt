@@ -3,6 +3,7 @@
 -- back along it (AlongRun.antt) says of the lists is told in their own words.
 use mathlib.Core.Path.{_≡_}
 use mathlib.Core.List.{List}
+use mathlib.Core.Logic.{_⊎_}
 use Prim.Native.Nat.{ℕ, suc, _-_, _≤_, _<_}
 use native.Mathlib.Omega.{arith}
 use lib.ListN.{length, getD}
@@ -27,6 +28,17 @@ module _ (polygons sequences turns : List ℕ) (R : Runs (numberLists polygons s
   within : (i : ℕ) → i < length turns → i < length polygons
   unfolding numberLists
   within i l = omega (arith, R .size)
+
+  -- the numbers along it, as they stand in the lists
+  pub run-begins : 0 < length turns → (getD polygons (getD turns 0 0) 0 ≡ 1) × (getD sequences (getD turns 0 0) 0 ≡ 0)
+  unfolding numberLists
+  run-begins l = R .to-end .begins (within 0 l)
+
+  pub run-onward : (i : ℕ) → suc i < length turns
+      → ((getD polygons (getD turns (suc i) 0) 0 ≡ getD polygons (getD turns i 0) 0) × (getD sequences (getD turns (suc i) 0) 0 ≡ suc (getD sequences (getD turns i 0) 0)))
+      ⊎ ((getD polygons (getD turns (suc i) 0) 0 ≡ suc (getD polygons (getD turns i 0) 0)) × (getD sequences (getD turns (suc i) 0) 0 ≡ 0))
+  unfolding numberLists
+  run-onward i l = R .to-end .onward i (within (suc i) l)
 
   pub sequence-back : (i : ℕ) → i < length turns → getD sequences (getD turns i 0) 0 ≤ i
   unfolding numberLists
