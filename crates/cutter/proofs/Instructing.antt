@@ -38,6 +38,25 @@ use Rattle.cutter.proofs.Cuttable.{cuttable}
 refused-not-next : {A : Type 0} (r : CutRefusal) {s : Step} → s ≡ Refused r → (i : _) → s ≡ Next i → A
 refused-not-next r q i e = let z : _≡_ {A = ℕ} 0 1 = cc in absurd (omega arith)
 
+-- lists that passed all that is asked before 25
+module _ (list : List ℤ) (polygons sequences turns : List ℕ) (passed : andThen (listChecked list) (edgesAloneChecked list) ≡ check.Passed)
+    {t : Turning} (T : TurnsChecked polygons sequences turns (edgesIn list) t) (right : t ≡ turning.Passed) where
+  pub drawable : Drawable list polygons sequences turns
+  drawable =
+      let E = alone-fit list passed in
+      let w = T .passed right in
+      record {
+        few = omega (arith, w .0, E .few);
+        long = omega (arith, w .0, E .long);
+        same = w .1 ∙ sym (w .0);
+        tails = λ e l. tail-in E e (omega (arith, l, w .0));
+        heads = λ e l. head-in E e (omega (arith, l, w .0));
+        runs = w .2;
+      }
+
+  pub turns-long : length turns ≡ edgesIn list
+  turns-long = as-long drawable ∙ T .passed right .0
+
 module _ (m : Machine) (list : List ℤ) (polygons sequences turns : List ℕ) (k : ℕ) where
   pub on-edges : (r : Refusal) → andThen (listChecked list) (edgesAloneChecked list) ≡ check.Refused r → Instructs m list polygons sequences turns k (Refused (Edges r))
   unfolding instructed
@@ -64,21 +83,11 @@ module _ (m : Machine) (list : List ℤ) (polygons sequences turns : List ℕ) (
 
     -- and the turn list too
     module _ (right : t ≡ turning.Passed) where
-      pub drawable : Drawable list polygons sequences turns
-      drawable =
-          let E = alone-fit list passed in
-          let w = T .passed right in
-          record {
-            few = omega (arith, w .0, E .few);
-            long = omega (arith, w .0, E .long);
-            same = w .1 ∙ sym (w .0);
-            tails = λ e l. tail-in E e (omega (arith, l, w .0));
-            heads = λ e l. head-in E e (omega (arith, l, w .0));
-            runs = w .2;
-          }
+      D : Drawable list polygons sequences turns
+      D = drawable list polygons sequences turns passed T right
 
-      pub turns-long : length turns ≡ edgesIn list
-      turns-long = as-long drawable ∙ T .passed right .0
+      long : length turns ≡ edgesIn list
+      long = turns-long list polygons sequences turns passed T right
 
       joined-answer : joinedStep m list sequences turns k ≡ instructed m list polygons sequences turns (T .right) k
       joined-answer = rw right at answered
@@ -89,7 +98,7 @@ module _ (m : Machine) (list : List ℤ) (polygons sequences turns : List ℕ) (
         on-broken l = record {
           right = T .right;
           given = T .given;
-          answer = refuse-here _ _ _ found (λ i. HeadNotTail (getD turns i 0)) _ (omega (arith, l, turns-long)) ∙ joined-answer;
+          answer = refuse-here _ _ _ found (λ i. HeadNotTail (getD turns i 0)) _ (omega (arith, l, long)) ∙ joined-answer;
           cuttable = refused-not-next _ refl;
         }
 
@@ -98,6 +107,6 @@ module _ (m : Machine) (list : List ℤ) (polygons sequences turns : List ℕ) (
         on-joined l q = record {
           right = T .right;
           given = T .given;
-          answer = q ∙ refuse-not _ _ _ found (λ i. HeadNotTail (getD turns i 0)) _ (omega (arith, l, turns-long)) ∙ joined-answer;
-          cuttable = λ i e. cuttable m _ (drawn drawable) (closed drawable (λ i h. first-least (headNotTail list sequences turns) (length turns) i (omega (arith, h, l, found, turns-long))));
+          answer = q ∙ refuse-not _ _ _ found (λ i. HeadNotTail (getD turns i 0)) _ (omega (arith, l, long)) ∙ joined-answer;
+          cuttable = λ i e. cuttable m _ (drawn D) (closed D (λ i h. first-least (headNotTail list sequences turns) (length turns) i (omega (arith, h, l, found, long))));
         }

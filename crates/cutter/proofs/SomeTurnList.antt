@@ -19,6 +19,7 @@ use Rattle.laws.proofs.Listing.{length-listOf, getD-listOf}
 use Rattle.sheet.specs.declared.TurnAnswer.the-variants.{Accepted}
 use Rattle.sheet.specs.TurnList.{NumberLists, numberLists, Before, TurnList, turned}
 use Rattle.sheet.proofs.ExactlyAccepted.{accepts-exactly}
+use Rattle.turns.proofs.Neighbours.{before-both}
 
 -- one edge comes before another, as a test
 before? : NumberLists → ℕ → ℕ → Bool
@@ -51,12 +52,6 @@ module _ (v : NumberLists) where
   not-itself : (e : ℕ) → before? v e e ≡ false
   not-itself e = ⊎-elim (λ t. ⊎-elim (λ h. absurd (omega (arith, h))) (λ h. absurd (omega (arith, h .1))) (passed e e t)) (λ t. t) (true-or-false (before? v e e))
 
-  before-both : (e f g : ℕ) → Before v e f → Before v f g → Before v e g
-  before-both e f g (inl a) (inl b) = inl (omega (arith, a, b))
-  before-both e f g (inl a) (inr b) = inl (omega (arith, a, b))
-  before-both e f g (inr a) (inl b) = inl (omega (arith, a, b))
-  before-both e f g (inr a) (inr b) = inr (a .0 ∙ b .0, omega (arith, a, b))
-
   position-below : (e : ℕ) → e < v .edges → position v e < v .edges
   unfolding position
   position-below e l = count-less (λ f. before? v f e) (v .edges) e l (not-itself e)
@@ -69,7 +64,7 @@ module _ (v : NumberLists) where
       others : (g : ℕ) → g < v .edges → before? v g e ≡ true → without (λ g. before? v g f) e g ≡ true
       others g m t =
           without-there (λ g. before? v g f) e g (λ q. not-both t (ap (λ (k : ℕ). before? v k e) q ∙ not-itself e))
-          ∙ passes g f (before-both g e f (passed g e t) b)
+          ∙ passes g f (before-both v g e f (passed g e t) b)
 
   module _ (once : (e f : ℕ) → e < v .edges → f < v .edges → v .polygon e ≡ v .polygon f → v .sequence e ≡ v .sequence f → e ≡ f) where
     either : (e f : ℕ) → e < v .edges → f < v .edges → Before v e f ⊎ (Before v f e ⊎ (e ≡ f))

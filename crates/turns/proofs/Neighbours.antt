@@ -8,7 +8,7 @@ use lib.ListN.{length, getD}
 use Rattle.laws.proofs.Deciding.{lt-or-le}
 use Rattle.sheet.specs.TurnList.{NumberLists, Before, TurnList}
 
-before-both : (v : NumberLists) (e f g : ℕ) → Before v e f → Before v f g → Before v e g
+pub before-both : (v : NumberLists) (e f g : ℕ) → Before v e f → Before v f g → Before v e g
 before-both v e f g (inl a) (inl b) = inl (omega (arith, a, b))
 before-both v e f g (inl a) (inr b) = inl (omega (arith, a, b))
 before-both v e f g (inr a) (inl b) = inl (omega (arith, a, b))

@@ -1,82 +1,69 @@
+-- `cutter::instruction` meets its contract: each way out is a law of Instructing.
+use mathlib.Core.Path.{_≡_, sym, _∙_}
+use native.Mathlib.Omega.{arith}
 use borrow.Author.Needs.{needs}
+use lib.ListN.{length}
+use Rattle.sheet.specs.declared.Check.the-variants.{Passed}
+use Rattle.sheet.specs.Edges.{edgesIn}
+use Rattle.checks.specs.Stages.{andThen, listChecked, edgesAloneChecked}
+use Rattle.checks.proofs.Answering.{alone-fit}
+use Rattle.cutter.specs.Joined.{Drawable}
+use Rattle.cutter.proofs.Standing.{standing}
+use Rattle.cutter.proofs.Instructing.{on-edges, on-turns, drawable, turns-long, on-broken, on-joined}
 use Rattle.cutter.proofs.instruction.Statement.{statement}
 use Rattle.cutter.proofs.instruction.Tie as tie
-use Rattle.cutter.proofs.instruction.Reads as reads
-use Rattle.cutter.proofs.instruction.Lts as lts
-use Rattle.cutter.proofs.check_edges.Reads as check-edges-reads
-use Rattle.cutter.proofs.joining.first_broken.Reads as first-broken-reads
-use Rattle.cutter.proofs.programming.instruction_at.Reads as instruction-at-reads
-use Rattle.cutter.proofs.turning.check.Reads as check-reads
 
--- src/lib.rt:84:38
-check-edges-requires : tie.Need-check-edges-requires
-check-edges-requires c κs = search needs
-
--- src/lib.rt:84:27
-enum-known-refusal : tie.Need-enum-known-refusal
-enum-known-refusal c = search needs
-
--- src/lib.rt:85:9
 returns : tie.Need-returns
-returns c = ?
+returns c = on-edges _ _ _ _ _ _ _ (sym (c .before .before .before .check-edges .ensures) ∙ c .before .refusal .given .1)
 
-enum-told : tie.Need-enum-told
-enum-told c = search needs
+edges-passed : (c : tie.After-enum-told) → andThen (listChecked (c .before .before .before .before .before .before .args .edges .now)) (edgesAloneChecked (c .before .before .before .before .before .before .args .edges .now)) ≡ Passed
+edges-passed c = sym (c .before .before .check-edges .ensures) ∙ c .enum-told .given .1
 
--- src/lib.rt:88:40
 check-requires : tie.Need-check-requires
-check-requires c κs = ?
+unfolding edgesIn
+check-requires c κs = alone-fit _ (edges-passed c) .few
 
--- src/lib.rt:88:29
-enum-known-refusal-2 : tie.Need-enum-known-refusal-2
-enum-known-refusal-2 c = search needs
-
--- src/lib.rt:89:9
 returns-2 : tie.Need-returns-2
-returns-2 c = ?
+unfolding edgesIn
+returns-2 c = on-turns _ _ _ _ _ _ (edges-passed (c .before .before .before .before)) (c .before .before .before .check .ensures) _ (c .before .refusal2 .given .1)
 
-enum-told-2 : tie.Need-enum-told-2
-enum-told-2 c = search needs
+drawn : (c : tie.After-enum-told2) → let a = c .before .before .before .before .before .before .before .before .before .args in Drawable (a .edges .now) (a .polygons .now) (a .sequences .now) (a .turns .now)
+unfolding edgesIn
+drawn c = drawable _ _ _ _ (edges-passed (c .before .before .before)) (c .before .before .check .ensures) (c .enum-told2 .given .1)
 
--- src/lib.rt:91:9
 first-broken-requires : tie.Need-first-broken-requires
-first-broken-requires c κs = ?
+first-broken-requires c κs = (standing (drawn c), omega (arith, drawn c .long, drawn c .same))
 
--- src/lib.rt:93:54
-mul-t16 : tie.Need-mul-t16
-mul-t16 c = search needs
-
--- src/lib.rt:93:54
 shared-slice-read-t18 : tie.Need-shared-slice-read-t18
-shared-slice-read-t18 c = ?
+unfolding edgesIn
+shared-slice-read-t18 c =
+    let t = c .before .before .before in
+    omega (arith, c .before .if1 .taken, turns-long _ _ _ _ (edges-passed (t .before .before .before)) (t .before .before .check .ensures) (t .enum-told2 .given .1))
 
--- src/lib.rt:93:9
 returns-3 : tie.Need-returns-3
-returns-3 c = ?
+unfolding edgesIn
+returns-3 c =
+    let t = c .before .before .before in
+    on-broken _ _ _ _ _ _ (edges-passed (t .before .before .before)) (t .before .before .check .ensures) (t .enum-told2 .given .1) _ (c .before .before .first-broken .ensures) (c .before .if1 .taken)
 
--- src/lib.rt:95:5
 instruction-at-requires : tie.Need-instruction-at-requires
-instruction-at-requires c κs = ?
+instruction-at-requires c κs = drawn (c .before .before)
 
--- src/lib.rt:74:1
 returns-4 : tie.Need-returns-4
-returns-4 c = ?
+unfolding edgesIn
+returns-4 c =
+    let t = c .before .before .before in
+    on-joined _ _ _ _ _ _ (edges-passed (t .before .before .before)) (t .before .before .check .ensures) (t .enum-told2 .given .1) _ (c .before .before .first-broken .ensures) (c .before .if1 .left) (c .instruction-at .ensures)
 
 pub instruction-spec : {M : Type 1} → statement M
 instruction-spec =
     tie.close
     (tie.spec
-    check-edges-requires
-    enum-known-refusal
-    returns
-    enum-told
-    check-requires
-    enum-known-refusal-2
-    returns-2
-    enum-told-2
-    first-broken-requires
-    mul-t16
-    shared-slice-read-t18
+    (search needs) (search needs) returns
+    (search needs) check-requires
+    (search needs) returns-2
+    (search needs) first-broken-requires
+    (search needs) shared-slice-read-t18
     returns-3
     instruction-at-requires
     returns-4)

@@ -41,12 +41,13 @@ sub-result c = omega (arith, c .before .before .before .pre .0 .before (c .befor
 
 returns-2 : tie.Need-returns-2
 returns-2 c =
-    let s = c .before .before .before in
-    (⊎-elim
-    (λ w. next-back (s .args .sequences .now) (s .args .turns .now) (s .args .i) (s .args .i + 1) (omega arith) (w .3 .left))
-    (λ w. next-back-last (s .args .sequences .now) (s .args .turns .now) (s .args .i) (omega (arith, w .left)))
-    (c .before .before .if1 .came),
-    omega (arith, s .pre .1))
+    let s = c .before .before .before in (
+      ⊎-elim
+          (λ w. next-back (s .args .sequences .now) (s .args .turns .now) (s .args .i) (s .args .i + 1) (omega arith) (w .3 .left))
+          (λ w. next-back-last (s .args .sequences .now) (s .args .turns .now) (s .args .i) (omega (arith, w .left)))
+          (c .before .before .if1 .came),
+      omega (arith, s .pre .1),
+    )
 
 pub next-at-spec : {M : Type 1} → statement M
 next-at-spec =
