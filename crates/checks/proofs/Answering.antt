@@ -1,6 +1,6 @@
 -- `checked` by stages: the three of them in a row give its answer. Then each stage's answer where the code has compared the lengths, or has the first
 -- edge of 5, 16, 6 or 7, of 8 and of 9; and what a stage that passes says of the list.
-use mathlib.Core.Path.{_≡_, refl, ap, _∙_}
+use mathlib.Core.Path.{_≡_, refl, sym, ap, _∙_}
 use mathlib.Core.Bool.{Bool, true, false, not}
 use mathlib.Core.List.{List}
 use Prim.Native.Nat.{ℕ, _*_, _/_, _%_, _≤_, _<_}
@@ -10,7 +10,7 @@ use lib.IntN.{ℤ}
 use lib.ListN.{length}
 use borrow.Author.Tests.{lt-ltb, le-ltb, ltb-false, eq-eqb, ne-eqb}
 use Rattle.laws.specs.Counting.{first}
-use Rattle.laws.proofs.First.{first-least}
+use Rattle.laws.proofs.First.{first-least, first-none}
 use Rattle.laws.proofs.Searching.{NoneBelow}
 use Rattle.sheet.specs.declared.Refusal.{Refusal}
 use Rattle.sheet.specs.declared.Refusal.the-variants.{NotWhole, TooMany, ListsDiffer, JournalShort, Repeated, Uneven}
@@ -131,8 +131,11 @@ alone-ends-fit : (s : List ℤ) → edgesIn s ≤ mostEdges → NoneBelow (alone
 unfolding edgesIn
 alone-ends-fit s few none = record { all = refl; few = few; long = omega arith; in-range = λ e l. none-alone s e (none e l) .0; on-film = λ e l. none-alone s e (none e l) .1; two-ends = λ e l. none-alone s e (none e l) .2 }
 
+without-seven : (s : List ℤ) (e : ℕ) → edgeFault s e ≡ false → aloneFault s e ≡ false
+without-seven s e none = let w = none-of s e none in rw (w .0, w .1, w .2) refl
+
 pub ends-fit : (s : List ℤ) → edgesIn s ≤ mostEdges → NoneBelow (edgeFault s) (edgesIn s) → EndsFit s (edgesIn s)
-ends-fit s few none = alone-ends-fit s few (λ e l. let w = none-of s e (none e l) in rw (w .0, w .1, w .2) refl)
+ends-fit s few none = alone-ends-fit s few (λ e l. without-seven s e (none e l))
 
 pub checked-fit : (s : List ℤ) → listChecked s ≡ Passed → edgesChecked s ≡ Passed → EndsFit s (edgesIn s)
 unfolding edgesChecked
@@ -143,3 +146,12 @@ unfolding edgesAloneChecked
 alone-fit s h =
     let w = stage-passed (listChecked s) _ h in
     alone-ends-fit s (few-edges s (w .0)) (no-fault (aloneFault s) (edgesIn s) (faultOf s) (w .1))
+
+-- a list that passes all that a sheet's call asks of its edges passes what is asked of them alone
+pub alone-passed : (c : Call) → checked c ≡ Passed → andThen (listChecked (c .list)) (edgesAloneChecked (c .list)) ≡ Passed
+unfolding edgesAloneChecked edgesChecked
+alone-passed c h =
+    let w = stage-passed (lengthsChecked c) _ (by-stages c ∙ h) in
+    let none = no-fault (edgeFault (c .list)) (edgesIn (c .list)) (faultOf (c .list)) (stage-passed (edgesChecked (c .list)) _ (w .1) .0) in
+    let least = first-none (aloneFault (c .list)) (edgesIn (c .list)) (λ e l. without-seven (c .list) e (none e l)) in
+    rw (list-passed c (w .0)) (sym (refuse-not _ _ _ refl (faultOf (c .list)) Passed (omega (arith, least))))

@@ -18,3 +18,4 @@ pub mod SomeTurnList
 pub mod TurnsTried
 pub mod Closing
 pub mod Instructing
+pub mod OnlyPastLast

@@ -1,10 +1,14 @@
 // The calls that people make, on plain slices: exported for Rust and C, by numbers alone. include/outline.h declares the same for C.
+use cutter::Step;
+use cutter::blade::Instruction;
+use cutter::machines::Machine;
 use sheet::Answer;
 use sheet::TurnAnswer;
 ghost use mathlib.Core.Path.{_≡_};
 ghost use lib.ListN.{length};
 ghost use Rattle.numbering.specs.Outcome.{lent, leftAs};
 ghost use Rattle.desk.specs.Exported.{sheetFrom, turnedFrom, Exports, ReadTurns};
+ghost use Rattle.desk.specs.Told.{instructionTold, cutFrom, Told};
 
 // What a sheet's call answers. Refusal 0: accepted, with place 0. Refused: the other three are 0.
 #[repr(C)]
@@ -22,6 +26,17 @@ pub struct Turned {
     pub refusal: u32,
     pub place: u32,
     pub polygons: u32,
+}
+
+// What an instruction's call answers. Refusal 0: an instruction, with place 0; what it is, 0 travel, 1 cut, 2 lift; and where to, in millimetres in the
+// machine's own order. A lift and a refusal have plus zero for both.
+#[repr(C)]
+pub struct Cut {
+    pub refusal: u32,
+    pub place: u32,
+    pub what: u32,
+    pub x: f32,
+    pub y: f32,
 }
 
 // The answer of a sheet's call by its numbers.
@@ -68,6 +83,51 @@ fn turned_of(answer: TurnAnswer) -> Turned
     }
 }
 
+// An instruction by its numbers.
+fn instruction_told(instruction: Instruction) -> Cut
+    ensures { λ r. ⌜ r ≡ instructionTold instruction ⌝ }
+{
+    match instruction {
+        Instruction::Travel(x, y) => Cut {
+            refusal: 0,
+            place: 0,
+            what: 0,
+            x,
+            y,
+        },
+        Instruction::Cut(x, y) => Cut {
+            refusal: 0,
+            place: 0,
+            what: 1,
+            x,
+            y,
+        },
+        Instruction::Lift => Cut {
+            refusal: 0,
+            place: 0,
+            what: 2,
+            x: 0.0,
+            y: 0.0,
+        },
+    }
+}
+
+// The answer of an instruction's call by its numbers.
+fn cut_of(step: Step) -> Cut
+    ensures { λ r. ⌜ r ≡ cutFrom step ⌝ }
+{
+    match step {
+        Step::Next(instruction) => instruction_told(instruction),
+        Step::Refused(refusal) => Cut {
+            refusal: refusal.number(),
+            place: refusal.place(),
+            what: 0,
+            x: 0.0,
+            y: 0.0,
+        },
+    }
+}
+
 // Numbers the edges of a list, five numbers an edge, the film last, in sweep order, and puts their places in the order in which they are cut.
 #[no_mangle]
 pub extern "C" fn outline_assemble(
@@ -89,4 +149,32 @@ pub extern "C" fn outline_turns(polygons: &[u32], sequences: &[u32], turns: &mut
     ensures { λ r. ⌜ ReadTurns (now (polygons .entry)) (now (sequences .entry)) (now (turns .entry)) (now (turns .exit)) r ⌝ }
 {
     turned_of(turns::turn_list(polygons, sequences, turns))
+}
+
+// The k-th instruction of the flatbed, counted from 0, for a sheet whose edges are numbered and put in turn order.
+#[no_mangle]
+pub extern "C" fn outline_flatbed(
+    edges: &[i32],
+    polygons: &[u32],
+    sequences: &[u32],
+    turns: &[u32],
+    k: u32,
+) -> Cut
+    ensures { λ r. ⌜ Told Machine.Flatbed (now (edges .entry)) (now (polygons .entry)) (now (sequences .entry)) (now (turns .entry)) k r ⌝ }
+{
+    cut_of(cutter::instruction(Machine::Flatbed, edges, polygons, sequences, turns, k))
+}
+
+// The k-th instruction of the roll feeder, likewise.
+#[no_mangle]
+pub extern "C" fn outline_roll_feeder(
+    edges: &[i32],
+    polygons: &[u32],
+    sequences: &[u32],
+    turns: &[u32],
+    k: u32,
+) -> Cut
+    ensures { λ r. ⌜ Told Machine.RollFeeder (now (edges .entry)) (now (polygons .entry)) (now (sequences .entry)) (now (turns .entry)) k r ⌝ }
+{
+    cut_of(cutter::instruction(Machine::RollFeeder, edges, polygons, sequences, turns, k))
 }

@@ -1,0 +1,126 @@
+-- Lists that pass all that is asked before 18 are refused nothing else, and 18 exactly from the number of edges and twice the number of polygons on. The
+-- turn list is the right one, since there is only one; the last edge in it is of the last polygon.
+use mathlib.Core.Path.{_≡_, refl, sym, ap, _∙_}
+use mathlib.Core.Bool.{true, false, not}
+use mathlib.Core.List.{List}
+use mathlib.Core.Logic.{⊎-elim}
+use Prim.Native.Nat.{ℕ, suc, _+_, _-_, _*_, _≤_, _<_}
+use native.Mathlib.Omega.{arith}
+use borrow.Author.Tests.{eq-eqb, ne-eqb, lt-ltb, le-ltb, ltb-true, ltb-false}
+use lib.Dec.{eqb, ltb}
+use lib.IntN.{ℤ}
+use lib.ListN.{length, getD}
+use Rattle.laws.specs.Counting.{first}
+use Rattle.laws.proofs.Deciding.{lt-or-le, true-or-false}
+use Rattle.laws.proofs.First.{first-none}
+use Rattle.sheet.specs.declared.Check.the-variants as check
+use Rattle.sheet.specs.declared.TurnAnswer.the-variants.{Accepted}
+use Rattle.sheet.specs.Edges.{edgesIn}
+use Rattle.sheet.specs.TurnList.{numberLists, turned, TurnList}
+use Rattle.sheet.proofs.ExactlyAccepted.{accepts-exactly}
+use Rattle.checks.specs.Stages.{andThen, listChecked, edgesAloneChecked}
+use Rattle.checks.proofs.Answering.{alone-fit}
+use Rattle.turns.proofs.OneTurnList.{every-edge, one-turn-list}
+use Rattle.cutter.specs.declared.machines.Machine.{Machine}
+use Rattle.cutter.specs.declared.blade.Instruction.{Instruction}
+use Rattle.cutter.specs.declared.blade.Instruction.the-variants.{Lift}
+use Rattle.cutter.specs.declared.CutRefusal.the-variants.{TurnsDiffer, HeadNotTail, PastLast}
+use Rattle.cutter.specs.declared.Step.{Step}
+use Rattle.cutter.specs.declared.Step.the-variants.{Next, Refused}
+use Rattle.cutter.specs.Places.{placeFor}
+use Rattle.cutter.specs.Programme.{programme}
+use Rattle.cutter.specs.Outlines.{outlinesOf, headNotTail}
+use Rattle.cutter.specs.Instructed.{kth, notAsLong, turnDiffers, turnedStep, joinedStep, instructed, Instructs}
+use Rattle.cutter.specs.Runs.{Runs}
+use Rattle.cutter.specs.Position.{upToCut, pastLast, beforeEnd}
+use Rattle.cutter.proofs.RightTurns.{right-runs}
+use Rattle.cutter.proofs.TurnsTried.{refuse-not}
+use Rattle.cutter.proofs.KthInstruction.{when-past, when-lift, when-found}
+
+module _ (list : List ℤ) (polygons sequences turns : List ℕ) {c : ℕ}
+    (passed : andThen (listChecked list) (edgesAloneChecked list) ≡ check.Passed)
+    (polygons-long : length polygons ≡ edgesIn list) (sequences-long : length sequences ≡ edgesIn list)
+    (accepted : turned polygons sequences (length turns) ≡ Accepted c)
+    (T : TurnList (numberLists polygons sequences) turns) where
+  turns-long : length turns ≡ edgesIn list
+  unfolding numberLists
+  turns-long = T .size ∙ polygons-long
+
+  pub runs : Runs (numberLists polygons sequences) turns
+  runs = right-runs polygons sequences turns (sequences-long ∙ sym polygons-long) (omega (arith, polygons-long, alone-fit list passed .few)) c accepted T
+
+  -- the last edge in turn is of the last polygon, and without an edge there is none
+  polygon-of : ℕ → ℕ
+  polygon-of i = getD polygons (getD turns i 0) 0
+
+  last-polygon : (i : ℕ) → suc i ≡ length turns → polygon-of i ≡ c
+  unfolding numberLists polygon-of
+  last-polygon i q =
+      let G = accepts-exactly polygons sequences (length turns) c .0 accepted .numbering in
+      let l : i < length polygons = omega (arith, q, turns-long, polygons-long) in
+      let here = G .from-one (getD turns i 0) (T .places i l) in
+      let e = G .no-gap c (omega (arith, here)) (omega arith) in
+      let w = every-edge T (e .0) (e .1) in
+      let there = ap (λ (x : ℕ). getD polygons x 0) (w .2) ∙ e .2 in
+      ⊎-elim
+      (λ h. ⊎-elim (λ b. omega (arith, here, b, there)) (λ b. omega (arith, b, there)) (T .in-order (w .0) i h l))
+      (λ h. let s : w .0 ≡ i = omega (arith, h, w .1, q, turns-long, polygons-long) in sym (ap polygon-of s) ∙ there)
+      (lt-or-le (w .0) i)
+
+  no-polygon : length turns ≡ 0 → c ≡ 0
+  unfolding numberLists
+  no-polygon q = ⊎-elim
+      (λ h. let e = accepts-exactly polygons sequences (length turns) c .0 accepted .numbering .no-gap c h (omega arith) in absurd (omega (arith, e .1, q, turns-long, polygons-long)))
+      (λ h. omega (arith, h))
+      (lt-or-le 0 c)
+
+  module _ (k : ℕ) where
+    pub past-told : length turns + 2 * c ≤ k → pastLast polygons turns k ≡ true
+    unfolding pastLast upToCut polygon-of
+    past-told h = ⊎-elim
+        (λ l.
+        let p = last-polygon (length turns - 1) (omega (arith, l)) in
+        rw (ne-eqb (length turns) 0 (λ q. absurd (omega (arith, q, l)))) (lt-ltb (upToCut polygons turns (length turns - 1)) k (omega (arith, h, p, l))))
+        (λ l. rw (eq-eqb (length turns) 0 (omega (arith, l))) refl)
+        (lt-or-le 0 (length turns))
+
+    pub not-past-told : k < length turns + 2 * c → pastLast polygons turns k ≡ false
+    unfolding pastLast upToCut polygon-of
+    not-past-told h = ⊎-elim
+        (λ l.
+        let p = last-polygon (length turns - 1) (omega (arith, l)) in
+        rw (ne-eqb (length turns) 0 (λ q. absurd (omega (arith, q, l)))) (le-ltb (upToCut polygons turns (length turns - 1)) k (omega (arith, h, p, l))))
+        (λ l. absurd (omega (arith, h, l, no-polygon (omega (arith, l)))))
+        (lt-or-le 0 (length turns))
+
+    module _ (m : Machine) (joined : (i : ℕ) → i < length turns → headNotTail list sequences turns i ≡ false) {r : Step} (I : Instructs m list polygons sequences turns k r) where
+      right-is : I .right ≡ turns
+      right-is = one-turn-list (I .given c accepted) T
+
+      differs-nowhere : (i : ℕ) → i < length turns → turnDiffers turns (I .right) i ≡ false
+      unfolding turnDiffers
+      differs-nowhere i l = rw right-is (rw (eq-eqb (getD turns i 0) (getD turns i 0) refl) refl)
+
+      long-enough : notAsLong (edgesIn list) polygons sequences turns ≡ false
+      unfolding notAsLong
+      long-enough = rw (eq-eqb (length polygons) (edgesIn list) polygons-long, eq-eqb (length sequences) (edgesIn list) sequences-long, eq-eqb (length turns) (edgesIn list) turns-long) refl
+
+      before-joining : instructed m list polygons sequences turns (I .right) k ≡ joinedStep m list sequences turns k
+      unfolding instructed turnedStep
+      before-joining = rw (passed, long-enough, accepted) (sym (refuse-not _ _ _ refl TurnsDiffer (joinedStep m list sequences turns k) (omega (arith, first-none _ (length turns) differs-nowhere))))
+
+      after-joining : joinedStep m list sequences turns k ≡ kth (programme (placeFor m) (outlinesOf list sequences turns)) k
+      unfolding joinedStep
+      after-joining = sym (refuse-not _ _ _ refl (λ i. HeadNotTail (getD turns i 0)) _ (omega (arith, first-none _ (length turns) joined)))
+
+      step-is : r ≡ kth (programme (placeFor m) (outlinesOf list sequences turns)) k
+      step-is = I .answer ∙ before-joining ∙ after-joining
+
+      pub past : length turns + 2 * c ≤ k → r ≡ Refused PastLast
+      past h = step-is ∙ sym (when-past m list polygons sequences turns runs k (past-told h))
+
+      pub not-past : k < length turns + 2 * c → (i : Instruction) × (r ≡ Next i)
+      not-past h = ⊎-elim
+          (λ l. (_, step-is ∙ sym (when-found m list polygons sequences turns runs k _ refl l)))
+          (λ l. (Lift, step-is ∙ sym (when-lift m list polygons sequences turns runs k (not-past-told h) l)))
+          (lt-or-le (first (λ i. ltb k (upToCut polygons turns i)) (length turns)) (length turns))
