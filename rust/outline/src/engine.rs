@@ -1,7 +1,9 @@
-//! The engine's two functions as its static library exports them, and the only
+//! The engine's functions as its static library exports them, and the only
 //! unsafe code of this crate: each slice is handed over as its pointer and its
 //! length. `include/outline.h` declares the same for C.
 #![allow(unsafe_code)]
+
+use crate::instructions::Machine;
 
 /// The answer to `outline_assemble`. Accepted: refusal and place are 0. Refused:
 /// the other three are 0.
@@ -21,6 +23,18 @@ pub struct Turned {
     pub refusal: u32,
     pub place: u32,
     pub polygons: u32,
+}
+
+/// The answer to `outline_flatbed` and to `outline_roll_feeder`. Accepted:
+/// refusal and place are 0. Refused: the other three are 0. `x` and `y` are the
+/// numbers that the machine takes first and second.
+#[repr(C)]
+pub struct Cut {
+    pub refusal: u32,
+    pub place: u32,
+    pub what: u32,
+    pub x: f32,
+    pub y: f32,
 }
 
 extern "C" {
@@ -47,6 +61,30 @@ extern "C" {
         turns: *mut u32,
         turns_length: usize,
     ) -> Turned;
+
+    fn outline_flatbed(
+        edges: *const i32,
+        edges_length: usize,
+        polygons: *const u32,
+        polygons_length: usize,
+        sequences: *const u32,
+        sequences_length: usize,
+        turns: *const u32,
+        turns_length: usize,
+        k: u32,
+    ) -> Cut;
+
+    fn outline_roll_feeder(
+        edges: *const i32,
+        edges_length: usize,
+        polygons: *const u32,
+        polygons_length: usize,
+        sequences: *const u32,
+        sequences_length: usize,
+        turns: *const u32,
+        turns_length: usize,
+        k: u32,
+    ) -> Cut;
 }
 
 /// Numbers a list and puts its edges in turn, on lent slices of any lengths.
@@ -91,6 +129,35 @@ pub fn turns(polygons: &[u32], sequences: &[u32], turns: &mut [u32]) -> Turned {
             sequences.len(),
             turns.as_mut_ptr(),
             turns.len(),
+        )
+    }
+}
+
+/// The k-th instruction of a machine, from four lists of any lengths.
+pub fn instruction(
+    machine: Machine,
+    edges: &[i32],
+    polygons: &[u32],
+    sequences: &[u32],
+    turns: &[u32],
+    k: u32,
+) -> Cut {
+    let of_machine = match machine {
+        Machine::Flatbed => outline_flatbed,
+        Machine::RollFeeder => outline_roll_feeder,
+    };
+    // SAFETY: as for `assemble`; nothing is written.
+    unsafe {
+        of_machine(
+            edges.as_ptr(),
+            edges.len(),
+            polygons.as_ptr(),
+            polygons.len(),
+            sequences.as_ptr(),
+            sequences.len(),
+            turns.as_ptr(),
+            turns.len(),
+            k,
         )
     }
 }

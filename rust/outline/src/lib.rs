@@ -23,13 +23,16 @@
 //!
 //! [`assemble()`] is the same on slices that the caller lends, with nothing
 //! allocated; [`rows_enough`] says how many rows to lend. [`turns()`] puts the
-//! edges of a numbering that was read from elsewhere in turn. [`text`] reads
-//! sheets as the program `outline` does, and [`picture`] draws them.
+//! edges of a numbering that was read from elsewhere in turn.
+//! [`Outlines::instructions`] says what a cutter is to do, and [`instruction()`]
+//! is the same on slices. [`text`] reads sheets as the program `outline` does, and
+//! [`picture`] draws them.
 
 #![deny(unsafe_code, unsafe_op_in_unsafe_fn, missing_docs)]
 
 mod assemble;
 mod engine;
+mod instructions;
 mod outlines;
 pub mod picture;
 mod refusal;
@@ -38,6 +41,7 @@ pub mod text;
 mod turns;
 
 pub use assemble::{assemble, Answer};
+pub use instructions::{instruction, Instruction, Machine, Place};
 pub use outlines::Outlines;
 pub use refusal::Refusal;
 pub use rows::rows_enough;
@@ -54,6 +58,9 @@ pub const LIMIT: i32 = 1_000_000;
 
 /// The greatest film; the least is 0.
 pub const MOST_FILM: i32 = 255;
+
+/// How many units of a list make a millimetre.
+pub const UNITS_PER_MILLIMETRE: i32 = 64;
 
 /// How many numbers must be lent to the journal for each edge.
 pub const JOURNAL_NUMBERS_PER_EDGE: usize = 8;

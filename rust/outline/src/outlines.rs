@@ -1,6 +1,7 @@
 //! The numbers and turns of a list, owned: the room is sized and lent here.
 
 use crate::assemble::{assemble, Answer};
+use crate::instructions::{instruction, Instruction, Machine};
 use crate::refusal::Refusal;
 use crate::rows::rows_enough;
 use crate::{JOURNAL_NUMBERS_PER_EDGE, NUMBERS_PER_EDGE, NUMBERS_PER_ROW};
@@ -28,40 +29,40 @@ use crate::{JOURNAL_NUMBERS_PER_EDGE, NUMBERS_PER_EDGE, NUMBERS_PER_ROW};
 /// ```
 #[derive(Clone, PartialEq, Eq, Debug)]
 pub struct Outlines {
+    edges: Vec<i32>,
     polygons: Vec<u32>,
     sequences: Vec<u32>,
     turns: Vec<u32>,
     /// Where each outline begins in the turn list, and where the last ends.
     starts: Vec<usize>,
-    films: Vec<u8>,
     peak: u32,
     records: u32,
 }
 
 impl Outlines {
-    /// Numbers a list of edges and puts them in turn, with room enough.
+    /// Numbers a list of edges and puts them in turn, with room enough. The list
+    /// is kept, for the films and the instructions.
     pub fn of(edges: &[i32]) -> Result<Outlines, Refusal> {
         let count = edges.len() / NUMBERS_PER_EDGE;
         let mut outlines = Outlines {
+            edges: edges.to_vec(),
             polygons: vec![0; count],
             sequences: vec![0; count],
             turns: vec![0; count],
             starts: Vec::new(),
-            films: Vec::new(),
             peak: 0,
             records: 0,
         };
-        outlines.assemble(edges)?;
+        outlines.assemble()?;
         outlines.find_starts();
-        outlines.read_films(edges);
         Ok(outlines)
     }
 
-    fn assemble(&mut self, edges: &[i32]) -> Result<(), Refusal> {
+    fn assemble(&mut self) -> Result<(), Refusal> {
         let mut journal = vec![0; JOURNAL_NUMBERS_PER_EDGE * self.polygons.len()];
-        let mut rows = vec![0; NUMBERS_PER_ROW * rows_enough(edges)];
+        let mut rows = vec![0; NUMBERS_PER_ROW * rows_enough(&self.edges)];
         let answer = assemble(
-            edges,
+            &self.edges,
             &mut self.polygons,
             &mut self.sequences,
             &mut self.turns,
@@ -84,11 +85,9 @@ impl Outlines {
         self.starts.push(self.turns.len());
     }
 
-    /// All edges of an outline are of one film: that of its first edge.
-    fn read_films(&mut self, edges: &[i32]) {
-        let film = |first: &u32| edges[NUMBERS_PER_EDGE * (*first as usize + 1) - 1] as u8;
-        let films = (1..=self.count()).map(|outline| film(&self.places(outline)[0]));
-        self.films = films.collect();
+    /// The list of edges.
+    pub fn edges(&self) -> &[i32] {
+        &self.edges
     }
 
     /// How many outlines there are.
@@ -125,10 +124,51 @@ impl Outlines {
         &self.turns[self.starts[outline - 1]..self.starts[outline]]
     }
 
-    /// The film of one outline, and so of each of its edges. None for a number
+    /// The film of one outline, and so of each of its edges: that of its first. None for a number
     /// that no outline has.
     pub fn film(&self, outline: usize) -> Option<u8> {
-        self.films.get(outline.checked_sub(1)?).copied()
+        let first = *self.places(outline).first()? as usize;
+        Some(self.edges[NUMBERS_PER_EDGE * (first + 1) - 1] as u8)
+    }
+
+    /// What a machine is told to cut all outlines, in the order of their numbers:
+    /// for each, travel to its highest point, cut along its edges, lift. There
+    /// are as many instructions as edges, and two more for each outline. The
+    /// engine is asked for each by itself, which takes it as long as looking
+    /// through the whole list.
+    ///
+    /// ```
+    /// use outline::{Machine, Outlines};
+    ///
+    /// let outlines = Outlines::of(&[0, 0, 4, 2, 7, 4, 2, 1, 5, 7, 1, 5, 0, 0, 7])?;
+    /// let text = |machine| {
+    ///     let lines = outlines.instructions(machine).map(|one| one.to_string());
+    ///     lines.collect::<Vec<String>>().join(", ")
+    /// };
+    /// assert_eq!(
+    ///     text(Machine::Flatbed),
+    ///     "travel 0.015625 0.078125, cut 0 0, cut 0.0625 0.03125, cut 0.015625 0.078125, lift"
+    /// );
+    /// assert_eq!(
+    ///     text(Machine::RollFeeder),
+    ///     "travel 0.078125 -0.015625, cut 0 0, cut 0.03125 -0.0625, cut 0.078125 -0.015625, lift"
+    /// );
+    /// # Ok::<(), outline::Refusal>(())
+    /// ```
+    pub fn instructions(
+        &self,
+        machine: Machine,
+    ) -> impl ExactSizeIterator<Item = Instruction> + DoubleEndedIterator + '_ {
+        let count = self.turns.len() + 2 * self.count();
+        (0..count as u32).map(move |k| self.instruction(machine, k))
+    }
+
+    /// The k-th instruction, for a k that is not past the last. That numbers and
+    /// turns from the engine's own call are refused nothing else is proved.
+    fn instruction(&self, machine: Machine, k: u32) -> Instruction {
+        let (polygons, sequences) = (&self.polygons, &self.sequences);
+        let asked = instruction(machine, &self.edges, polygons, sequences, &self.turns, k);
+        asked.unwrap_or_else(|refusal| panic!("instruction {}: {}", k, refusal))
     }
 
     /// The most rows that were in use at any moment.

@@ -1,4 +1,4 @@
-//! Why a list, a numbering or a text is refused: a case for each refusal, with
+//! Why a list, a numbering, a text or a k is refused: a case for each refusal, with
 //! the number that the rules give it, its place, and a sentence that says what
 //! is wrong and what to do.
 
@@ -67,8 +67,8 @@ pub enum Refusal {
         /// The edge that was being treated.
         edge: u32,
     },
-    /// 11: the three lists of the turn list call differ in length or are longer
-    /// than 4,096.
+    /// 11: the polygon, the sequence and the turn list differ in length, or are
+    /// longer than 4,096, or for an instruction are not as long as the edges.
     TurnLengths,
     /// 12: a polygon number is 0.
     NoPolygon {
@@ -93,6 +93,18 @@ pub enum Refusal {
     /// 16: a film is past 0 to 255.
     FilmPastRange {
         /// The first such edge.
+        edge: u32,
+    },
+    /// 18: there are not so many instructions.
+    PastLast,
+    /// 24: the turn list is not the one that the numbers give.
+    TurnsDiffer {
+        /// The first position in the turn list that differs, from 0.
+        position: u32,
+    },
+    /// 25: an outline is not closed: a head is not the tail of the next edge.
+    HeadNotTail {
+        /// The first such edge in turn order.
         edge: u32,
     },
     /// A number that this crate does not know. It comes only from an archive
@@ -127,12 +139,15 @@ impl Refusal {
             13 => Refusal::PairRepeated { edge },
             14 => Refusal::Gap { edge },
             16 => Refusal::FilmPastRange { edge },
+            18 => Refusal::PastLast,
+            24 => Refusal::TurnsDiffer { position: place },
+            25 => Refusal::HeadNotTail { edge },
             _ => Refusal::Unknown { number, place },
         };
         Some(refusal)
     }
 
-    /// The refusal's number in the rules, 1 to 16.
+    /// The refusal's number in the rules.
     pub fn number(self) -> u32 {
         match self {
             Refusal::NotWhole => 1,
@@ -151,15 +166,19 @@ impl Refusal {
             Refusal::Gap { .. } => 14,
             Refusal::Malformed { .. } => 15,
             Refusal::FilmPastRange { .. } => 16,
+            Refusal::PastLast => 18,
+            Refusal::TurnsDiffer { .. } => 24,
+            Refusal::HeadNotTail { .. } => 25,
             Refusal::Unknown { number, .. } => number,
         }
     }
 
-    /// The refusal's place: an edge's place from 0, a line's number from 1, and
-    /// 0 where it speaks of no single one.
+    /// The refusal's place: an edge's place or a position in the turn list from 0,
+    /// a line's number from 1, and 0 where it speaks of no single one.
     pub fn place(self) -> u32 {
         match self {
             Refusal::Malformed { line } => line,
+            Refusal::TurnsDiffer { position } => position,
             Refusal::Unknown { place, .. } => place,
             _ => self.edge().unwrap_or(0),
         }
@@ -177,13 +196,14 @@ impl Refusal {
             | Refusal::NoPolygon { edge }
             | Refusal::PairRepeated { edge }
             | Refusal::Gap { edge }
-            | Refusal::FilmPastRange { edge } => Some(edge),
+            | Refusal::FilmPastRange { edge }
+            | Refusal::HeadNotTail { edge } => Some(edge),
             _ => None,
         }
     }
 
-    /// What is wrong, as the end of a sentence that begins with the edge or the
-    /// line that it speaks of, if any.
+    /// What is wrong, as the end of a sentence that begins with the edge, the
+    /// line or the position that it speaks of, if any.
     fn fault(self) -> &'static str {
         match self {
             Refusal::NotWhole => "the list ends in the middle of an edge",
@@ -207,7 +227,7 @@ impl Refusal {
             }
             Refusal::NoRow { .. } => "finds no free row",
             Refusal::TurnLengths => {
-                "the polygon list, the sequence list and the turn list are not equally long, or longer than 4,096"
+                "the polygon list, the sequence list and the turn list are not equally long, or not as long as there are edges, or longer than 4,096"
             }
             Refusal::NoPolygon { .. } => "has the polygon number 0",
             Refusal::PairRepeated { .. } => {
@@ -218,6 +238,11 @@ impl Refusal {
             }
             Refusal::Malformed { .. } => "is malformed",
             Refusal::FilmPastRange { .. } => "has a film below 0 or above 255",
+            Refusal::PastLast => "there are not so many instructions",
+            Refusal::TurnsDiffer { .. } => "has another edge than the numbers put there",
+            Refusal::HeadNotTail { .. } => {
+                "does not end where the next edge of its outline begins"
+            }
             Refusal::Unknown { .. } => "the engine refuses for a reason that is not known here",
         }
     }
@@ -253,6 +278,9 @@ impl Refusal {
                 "write five whole numbers of up to seven digits with one space between them, no needless zeros, and a newline after the last"
             }
             Refusal::FilmPastRange { .. } => "give it one of the 256 films",
+            Refusal::PastLast => "stop after the last; there are as many as edges, and two more for each outline",
+            Refusal::TurnsDiffer { .. } => "take the turn list that comes with the numbers, or have it read from them",
+            Refusal::HeadNotTail { .. } => "take the numbers and the turn list that belong to these edges",
             Refusal::Unknown { .. } => "build the program again with the archive that it is used with",
         }
     }
@@ -265,6 +293,11 @@ impl fmt::Display for Refusal {
         }
         match self {
             Refusal::Malformed { line } => write!(to, "line {} ", line)?,
+            Refusal::TurnsDiffer { position } => write!(
+                to,
+                "position {} of the turn list (counted from 0) ",
+                position
+            )?,
             Refusal::Unknown { number, place } => write!(to, "refusal {} {}: ", number, place)?,
             _ => {}
         }

@@ -2,7 +2,8 @@
 //! another machine does not run those in the comments.
 
 use outline::text::{read_sheet, write_sheet};
-use outline::{assemble, picture, rows_enough, turns, Answer, Outlines, Refusal, TurnAnswer};
+use outline::{assemble, instruction, picture, rows_enough, turns};
+use outline::{Answer, Instruction, Machine, Outlines, Place, Refusal, TurnAnswer};
 
 const TRIANGLE: [i32; 15] = [0, 0, 4, 2, 7, 4, 2, 1, 5, 7, 1, 5, 0, 0, 7];
 
@@ -80,6 +81,71 @@ fn a_refusal() {
     let refusal = Outlines::of(&[5, 5, 5, 5, 0]).unwrap_err();
     assert_eq!(refusal, Refusal::EqualEnds { edge: 0 });
     assert_eq!((refusal.number(), refusal.place()), (6, 0));
+}
+
+fn place(first: f32, second: f32) -> Place {
+    Place { first, second }
+}
+
+#[test]
+fn one_instruction() {
+    let ask = |machine, k| instruction(machine, &TRIANGLE, &[1, 1, 1], &[1, 2, 0], &[2, 0, 1], k);
+    let top = Instruction::Travel(place(0.015625, 0.078125));
+    assert_eq!(ask(Machine::Flatbed, 0), Ok(top));
+    let corner = Instruction::Cut(place(0.03125, -0.0625));
+    assert_eq!(ask(Machine::RollFeeder, 2), Ok(corner));
+    assert_eq!(ask(Machine::Flatbed, 4), Ok(Instruction::Lift));
+    assert_eq!(ask(Machine::Flatbed, 5), Err(Refusal::PastLast));
+}
+
+#[test]
+fn all_instructions() -> Result<(), Refusal> {
+    let outlines = Outlines::of(&TRIANGLE)?;
+    let text = |machine| {
+        let lines = outlines.instructions(machine).map(|one| one.to_string());
+        lines.collect::<Vec<String>>().join(", ")
+    };
+    assert_eq!(
+        text(Machine::Flatbed),
+        "travel 0.015625 0.078125, cut 0 0, cut 0.0625 0.03125, cut 0.015625 0.078125, lift"
+    );
+    assert_eq!(
+        text(Machine::RollFeeder),
+        "travel 0.078125 -0.015625, cut 0 0, cut 0.03125 -0.0625, cut 0.078125 -0.015625, lift"
+    );
+    assert_eq!(outlines.edges(), TRIANGLE);
+    let mut instructions = outlines.instructions(Machine::Flatbed);
+    assert_eq!(instructions.len(), 5);
+    assert_eq!(instructions.next_back(), Some(Instruction::Lift));
+    assert_eq!(instructions.len(), 4);
+    assert_eq!(
+        Outlines::of(&[])?.instructions(Machine::RollFeeder).len(),
+        0
+    );
+    Ok(())
+}
+
+/// All decimals and none too many, and no minus before zero.
+#[test]
+fn instructions_as_text() {
+    let cases = [
+        (0.03125, -15_625.0, "0.03125 -15625"),
+        (
+            15_624.984_375,
+            -15_624.984_375,
+            "15624.984375 -15624.984375",
+        ),
+        (100.0, 0.015625, "100 0.015625"),
+        (-0.5, 1.0, "-0.5 1"),
+        (-0.0, 0.0, "0 0"),
+    ];
+    for (first, second, text) in cases {
+        let travel = Instruction::Travel(place(first, second));
+        assert_eq!(travel.to_string(), format!("travel {}", text));
+        let cut = Instruction::Cut(place(first, second));
+        assert_eq!(cut.to_string(), format!("cut {}", text));
+    }
+    assert_eq!(Instruction::Lift.to_string(), "lift");
 }
 
 #[test]

@@ -3,21 +3,22 @@
 
 use std::collections::BTreeSet;
 
-use outline::{assemble, turns, Answer, Outlines, Refusal, TurnAnswer};
+use outline::{assemble, instruction, turns, Answer, Machine, Outlines, Refusal, TurnAnswer};
 
 const TRIANGLE: [i32; 15] = [0, 0, 4, 2, 7, 4, 2, 1, 5, 7, 1, 5, 0, 0, 7];
 
 /// The refusals that speak of no edge.
-const OF_NO_EDGE: [Refusal; 5] = [
+const OF_NO_EDGE: [Refusal; 6] = [
     Refusal::NotWhole,
     Refusal::TooMany,
     Refusal::ListsDiffer,
     Refusal::JournalShort,
     Refusal::TurnLengths,
+    Refusal::PastLast,
 ];
 
 /// The refusals that speak of an edge.
-fn of_an_edge(edge: u32) -> [Refusal; 10] {
+fn of_an_edge(edge: u32) -> [Refusal; 11] {
     [
         Refusal::PastRange { edge },
         Refusal::EqualEnds { edge },
@@ -29,18 +30,23 @@ fn of_an_edge(edge: u32) -> [Refusal; 10] {
         Refusal::PairRepeated { edge },
         Refusal::Gap { edge },
         Refusal::FilmPastRange { edge },
+        Refusal::HeadNotTail { edge },
     ]
 }
 
 #[test]
 fn numbers_and_places() {
     let numbers = OF_NO_EDGE.map(|refusal| (refusal.number(), refusal.place(), refusal.edge()));
-    assert_eq!(numbers, [1, 2, 3, 4, 11].map(|number| (number, 0, None)));
+    let expected = [1, 2, 3, 4, 11, 18];
+    assert_eq!(numbers, expected.map(|number| (number, 0, None)));
     let numbers = of_an_edge(9).map(|refusal| (refusal.number(), refusal.place(), refusal.edge()));
-    let expected = [5, 6, 7, 8, 9, 10, 12, 13, 14, 16];
+    let expected = [5, 6, 7, 8, 9, 10, 12, 13, 14, 16, 25];
     assert_eq!(numbers, expected.map(|number| (number, 9, Some(9))));
     let malformed = Refusal::Malformed { line: 4 };
     assert_eq!((malformed.number(), malformed.place()), (15, 4));
+    let differ = Refusal::TurnsDiffer { position: 6 };
+    assert_eq!((differ.number(), differ.place()), (24, 6));
+    assert_eq!((malformed.edge(), differ.edge()), (None, None));
     let unknown = Refusal::Unknown {
         number: 77,
         place: 5,
@@ -65,12 +71,14 @@ fn every_refusal_has_a_sentence_of_its_own() {
         assert!(say(refusal).starts_with("edge 4095 (counted from 0) "));
     }
     assert!(say(Refusal::Malformed { line: 12 }).starts_with("line 12 is malformed: "));
+    let differ = say(Refusal::TurnsDiffer { position: 12 });
+    assert!(differ.starts_with("position 12 of the turn list (counted from 0) has "));
     let unknown = Refusal::Unknown {
         number: 77,
         place: 5,
     };
     assert!(say(unknown).starts_with("refusal 77 5: "));
-    assert_eq!(sentences.len(), 17);
+    assert_eq!(sentences.len(), 20);
 }
 
 #[test]
@@ -144,4 +152,30 @@ fn each_refusal_of_the_turn_list_comes_as_its_case() {
         Refusal::PairRepeated { edge: 1 }
     );
     assert_eq!(refused(&[1, 1], &[0, 2], 2), Refusal::Gap { edge: 1 });
+}
+
+#[test]
+fn each_refusal_of_an_instruction_comes_as_its_case() {
+    let refused = |edges: &[i32], turns: &[u32], k: u32| {
+        let asked = instruction(Machine::Flatbed, edges, &[1, 1, 1], &[1, 2, 0], turns, k);
+        asked.unwrap_err()
+    };
+    let mut open = TRIANGLE;
+    open[7] += 1;
+    let cases = [
+        (refused(&TRIANGLE[1..], &[2, 0, 1], 0), Refusal::NotWhole),
+        (refused(&TRIANGLE[5..], &[2, 0, 1], 0), Refusal::TurnLengths),
+        (
+            refused(&TRIANGLE, &[2, 1, 0], 0),
+            Refusal::TurnsDiffer { position: 1 },
+        ),
+        (
+            refused(&open, &[2, 0, 1], 0),
+            Refusal::HeadNotTail { edge: 1 },
+        ),
+        (refused(&TRIANGLE, &[2, 0, 1], 5), Refusal::PastLast),
+    ];
+    for (given, wanted) in cases {
+        assert_eq!(given, wanted);
+    }
 }
