@@ -4,8 +4,9 @@
 //! can be given the same call and their outcomes compared.
 
 use crate::assemble::Answer;
-use crate::checks::JOURNAL_NUMBERS_PER_EDGE;
+use crate::checks::{Refusal, JOURNAL_NUMBERS_PER_EDGE};
 use crate::geometry::NUMBERS_PER_EDGE;
+use crate::instructions::{instruction, instructions, Instruction, Machine};
 use crate::steps::NUMBERS_PER_ROW;
 use crate::turns::TurnAnswer;
 
@@ -147,4 +148,37 @@ pub struct TurnOutcome {
     pub answer: TurnAnswer,
     /// The turn list.
     pub turns: Vec<u32>,
+}
+
+/// A call for an instruction. It is lent nothing to be written, so that its
+/// answer is all that can be seen.
+#[derive(Clone, PartialEq, Eq, Debug)]
+pub struct CutCall {
+    /// The edge list.
+    pub edges: Vec<i32>,
+    /// The polygon list.
+    pub polygons: Vec<u32>,
+    /// The sequence list.
+    pub sequences: Vec<u32>,
+    /// The turn list.
+    pub turns: Vec<u32>,
+    /// Which instruction, from 0.
+    pub k: u32,
+    /// Whose instruction.
+    pub machine: Machine,
+}
+
+impl CutCall {
+    /// The witness's answer.
+    pub fn answer(&self) -> Result<Instruction, Refusal> {
+        let (polygons, sequences) = (&self.polygons, &self.sequences);
+        let (machine, k) = (self.machine, self.k);
+        instruction(machine, &self.edges, polygons, sequences, &self.turns, k)
+    }
+
+    /// What the witness answers for every k.
+    pub fn answers(&self) -> Result<Vec<Instruction>, Refusal> {
+        let (polygons, sequences) = (&self.polygons, &self.sequences);
+        instructions(self.machine, &self.edges, polygons, sequences, &self.turns)
+    }
 }

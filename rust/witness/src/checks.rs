@@ -21,9 +21,10 @@ pub const BY_EDGE: [u32; 4] = [5, 16, 6, 7];
 /// A refusal: its number in the paper and the place that it speaks of.
 #[derive(Clone, Copy, PartialEq, Eq, Hash, Debug)]
 pub struct Refusal {
-    /// 1 to 16.
+    /// 1 to 25.
     pub number: u32,
-    /// An edge's place from 0 (refusal 15: a line from 1), or 0.
+    /// An edge's place from 0 (refusal 15: a line from 1; refusal 24: a position
+    /// in the turn list from 0), or 0.
     pub place: u32,
 }
 
@@ -50,7 +51,8 @@ pub struct Lengths {
 
 /// The list as edges if nothing is wrong with it, else the first refusal.
 pub fn checked(numbers: &[i32], lengths: Lengths) -> Result<Vec<Edge>, Refusal> {
-    check_lengths(numbers.len(), lengths)?;
+    check_list(numbers.len())?;
+    check_lent(numbers.len() / NUMBERS_PER_EDGE, lengths)?;
     let edges = read_edges(numbers);
     check_edges(&edges)?;
     check_kinds(&edges)?;
@@ -58,14 +60,20 @@ pub fn checked(numbers: &[i32], lengths: Lengths) -> Result<Vec<Edge>, Refusal> 
     Ok(edges)
 }
 
-/// Refusals 1 to 4: lengths that do not fit.
-fn check_lengths(numbers: usize, lengths: Lengths) -> Result<(), Refusal> {
-    let edges = numbers / NUMBERS_PER_EDGE;
+/// Refusals 1 and 2: a list of so many numbers is no list of edges.
+pub fn check_list(numbers: usize) -> Result<(), Refusal> {
     if numbers % NUMBERS_PER_EDGE != 0 {
         Err(Refusal::at(1, 0))
-    } else if edges > MOST_EDGES {
+    } else if numbers / NUMBERS_PER_EDGE > MOST_EDGES {
         Err(Refusal::at(2, 0))
-    } else if [lengths.polygons, lengths.sequences, lengths.turns] != [edges; 3] {
+    } else {
+        Ok(())
+    }
+}
+
+/// Refusals 3 and 4: lengths that do not fit so many edges.
+fn check_lent(edges: usize, lengths: Lengths) -> Result<(), Refusal> {
+    if [lengths.polygons, lengths.sequences, lengths.turns] != [edges; 3] {
         Err(Refusal::at(3, 0))
     } else if lengths.journal < JOURNAL_NUMBERS_PER_EDGE * edges {
         Err(Refusal::at(4, 0))
@@ -74,19 +82,26 @@ fn check_lengths(numbers: usize, lengths: Lengths) -> Result<(), Refusal> {
     }
 }
 
+/// The first of refusals 5, 16 and 6 that an edge gets by itself.
+pub fn fault(edge: &Edge) -> Option<u32> {
+    if !edge.is_in_range() {
+        Some(5)
+    } else if !edge.has_film_in_range() {
+        Some(16)
+    } else if edge.tail == edge.head {
+        Some(6)
+    } else {
+        None
+    }
+}
+
 /// Refusals 5, 16, 6 and 7: the first edge that is wrong by itself or stands
 /// after an edge with a higher top, of whatever film.
 fn check_edges(edges: &[Edge]) -> Result<(), Refusal> {
     let mut top_before: Option<Point> = None;
     for (place, edge) in edges.iter().enumerate() {
-        if !edge.is_in_range() {
-            return Err(Refusal::at(5, place));
-        }
-        if !edge.has_film_in_range() {
-            return Err(Refusal::at(16, place));
-        }
-        if edge.tail == edge.head {
-            return Err(Refusal::at(6, place));
+        if let Some(number) = fault(edge) {
+            return Err(Refusal::at(number, place));
         }
         if top_before.map_or(false, |before| edge.top() < before) {
             return Err(Refusal::at(7, place));

@@ -1,7 +1,8 @@
 //! A witness for the outline engine: the rules of document 01, and of requests
-//! M-100 for films and M-101 for numbers and turns in one call, written a second
-//! time, for clearness only, so that the engine can be held against it.
-//! `checks`, `steps`, `assemble`, `turns` and `text` answer as the engine must;
+//! M-100 for films, M-101 for numbers and turns in one call and M-102 for
+//! instructions, written a second time, for clearness only, so that the engine
+//! can be held against it. `checks`, `steps`, `assemble`, `turns`, `instructions`
+//! and `text` answer as the engine must;
 //! `declared` says what the numbers are without any sweep; `call`, `vectors`,
 //! `worked` and `generate` are what tests of either engine need.
 //!
@@ -33,6 +34,7 @@ pub mod checks;
 pub mod declared;
 pub mod generate;
 pub mod geometry;
+pub mod instructions;
 pub mod json;
 pub mod numbering;
 pub mod steps;
@@ -43,5 +45,6 @@ pub mod worked;
 
 pub use assemble::{assemble, Answer};
 pub use checks::Refusal;
+pub use instructions::{instruction, instructions, Instruction, Machine};
 pub use text::outline;
 pub use turns::{turns, TurnAnswer};

@@ -37,7 +37,7 @@ pub fn in_turn(polygons: &[u32], sequences: &[u32]) -> Vec<u32> {
 }
 
 /// Refusals 11 to 14, each tried over the whole list before the next.
-fn check_turns(polygons: &[u32], sequences: &[u32], turns: usize) -> Result<(), Refusal> {
+pub fn check_turns(polygons: &[u32], sequences: &[u32], turns: usize) -> Result<(), Refusal> {
     let edges = polygons.len();
     if sequences.len() != edges || turns != edges || edges > MOST_EDGES {
         return Err(Refusal::at(11, 0));

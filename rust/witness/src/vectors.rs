@@ -7,9 +7,10 @@ use std::collections::BTreeMap;
 use std::str::FromStr;
 
 use crate::assemble::Answer;
-use crate::call::{Call, Outcome, TurnCall, TurnOutcome};
+use crate::call::{Call, CutCall, Outcome, TurnCall, TurnOutcome};
 use crate::checks::Refusal;
 use crate::geometry::NUMBERS_PER_EDGE;
+use crate::instructions::{Instruction, Machine};
 use crate::json::string_bytes;
 use crate::turns::{in_turn, TurnAnswer};
 
@@ -21,6 +22,9 @@ const FILMS: &str = include_str!("../../vectors/M-100.txt");
 
 /// The cases of request M-101, with the turn list in the same call.
 const ONE_CALL: &str = include_str!("../../vectors/M-101.txt");
+
+/// The cases of request M-102, with instructions.
+const INSTRUCTIONS: &str = include_str!("../../vectors/M-102.txt");
 
 /// One case of a vector file.
 #[derive(Clone, PartialEq, Eq, Debug)]
@@ -38,6 +42,8 @@ pub enum Work {
     Assemble(Call, Outcome),
     /// A turn list call and its outcome.
     Turns(TurnCall, TurnOutcome),
+    /// A call for an instruction and its answer.
+    Instruction(CutCall, Result<Instruction, Refusal>),
     /// The program's input and output.
     Program(Vec<u8>, Vec<u8>),
 }
@@ -60,10 +66,14 @@ pub fn read_cases(text: &str) -> Result<Vec<Case>, String> {
 }
 
 /// All cases of the repository's vector files: those of document 01, read in
-/// film 0, and those of requests M-100 and M-101.
+/// film 0, and those of requests M-100 to M-102.
 pub fn all_cases() -> Result<Vec<Case>, String> {
     let base = read_cases(BASE)?.into_iter().map(in_film_0);
-    let requests = [read_cases(FILMS)?, read_cases(ONE_CALL)?];
+    let requests = [
+        read_cases(FILMS)?,
+        read_cases(ONE_CALL)?,
+        read_cases(INSTRUCTIONS)?,
+    ];
     Ok(base.chain(requests.into_iter().flatten()).collect())
 }
 
@@ -77,7 +87,7 @@ fn in_film_0(mut case: Case) -> Case {
             lend_turns(call, outcome);
         }
         Work::Program(input, _) => *input = lines_in_film_0(input),
-        Work::Turns(..) => {}
+        Work::Turns(..) | Work::Instruction(..) => {}
     }
     case
 }
@@ -147,6 +157,7 @@ impl<'a> Block<'a> {
             "number" => self.number(),
             "both" => self.both(),
             "turns" => self.turns(),
+            "instruction" => self.instruction(),
             "program" => Ok(Work::Program(
                 string_bytes(self.rest("input")?)?,
                 string_bytes(self.rest("output")?)?,
@@ -207,6 +218,33 @@ impl<'a> Block<'a> {
         };
         let turns = self.slice("out turn", call.turns, call.fill)?;
         Ok(Work::Turns(call, TurnOutcome { answer, turns }))
+    }
+
+    fn instruction(&self) -> Result<Work, String> {
+        let call = CutCall {
+            edges: self.list("in edges")?,
+            polygons: self.list("in poly")?,
+            sequences: self.list("in seq")?,
+            turns: self.list("in turn")?,
+            k: self.k()?,
+            machine: match self.rest("in machine")? {
+                "flat" => Machine::Flatbed,
+                "roll" => Machine::RollFeeder,
+                other => return Err(format!("unknown machine {:?}", other)),
+            },
+        };
+        let answer = match self.refusal()? {
+            Some(refusal) => Err(refusal),
+            None => Ok(read_instruction(self.rest("instruction")?)?),
+        };
+        Ok(Work::Instruction(call, answer))
+    }
+
+    /// Some cases have a k that is too great to be handed over. The greatest that
+    /// can be is past the last instruction too, so that its answer is the same.
+    fn k(&self) -> Result<u32, String> {
+        let k: u64 = self.one("in k")?;
+        Ok(u32::try_from(k).unwrap_or(u32::MAX))
     }
 
     /// The answer to an assembling call.
@@ -272,4 +310,18 @@ impl<'a> Block<'a> {
 
 fn read_number<T: FromStr>(word: &str) -> Result<T, String> {
     word.parse().map_err(|_| format!("bad number {:?}", word))
+}
+
+/// An instruction as it stands in a file: its word and the bits of its place.
+fn read_instruction(text: &str) -> Result<Instruction, String> {
+    let bits = |word: &str| {
+        let read = u32::from_str_radix(word, 16);
+        read.map_err(|_| format!("bad bits {:?}", word))
+    };
+    match text.split(' ').collect::<Vec<&str>>()[..] {
+        ["travel", first, second] => Ok(Instruction::Travel([bits(first)?, bits(second)?])),
+        ["cut", first, second] => Ok(Instruction::Cut([bits(first)?, bits(second)?])),
+        ["lift"] => Ok(Instruction::Lift),
+        _ => Err(format!("bad instruction {:?}", text)),
+    }
 }

@@ -32,6 +32,7 @@ fn vector(id: &str) -> Sheet {
     let case = cases.into_iter().find(|case| case.id == id).unwrap();
     match case.work {
         Work::Assemble(call, _) => call.edges,
+        Work::Instruction(call, _) => call.edges,
         Work::Program(input, _) => read_list(&input).unwrap(),
         Work::Turns(..) => panic!("{} has no edges", id),
     }

@@ -7,7 +7,7 @@ use std::collections::BTreeMap;
 use witness::call::Outcome;
 use witness::json::string_bytes;
 use witness::vectors::{all_cases, read_cases, Case, Work};
-use witness::{assemble, outline, turns, Answer};
+use witness::{assemble, outline, turns, Answer, Instruction};
 
 fn check(case: &Case) {
     match &case.work {
@@ -16,6 +16,9 @@ fn check(case: &Case) {
         }
         Work::Turns(call, expected) => {
             assert_eq!(&call.outcome(turns), expected, "case {}", case.id);
+        }
+        Work::Instruction(call, expected) => {
+            assert_eq!(&call.answer(), expected, "case {}", case.id);
         }
         Work::Program(input, expected) => {
             let printed = outline(input);
@@ -35,6 +38,7 @@ fn every_case() {
         let operation = match case.work {
             Work::Assemble(..) => "assemble",
             Work::Turns(..) => "turns",
+            Work::Instruction(..) => "instruction",
             Work::Program(..) => "program",
         };
         let file = case.id.split('/').next().unwrap();
@@ -50,6 +54,10 @@ fn every_case() {
         (("M-101", "assemble"), 101),
         (("M-101", "program"), 49),
         (("M-101", "turns"), 40),
+        (("M-102", "assemble"), 69),
+        (("M-102", "instruction"), 111),
+        (("M-102", "program"), 36),
+        (("M-102", "turns"), 40),
     ];
     assert_eq!(met, BTreeMap::from(expected));
 }
@@ -94,6 +102,36 @@ fn files_that_are_not_understood() {
 }
 
 #[test]
+fn instructions_that_are_not_understood() {
+    let whole = "case a instruction\nin edges empty\nin poly empty\nin seq empty\nin turn empty\nin k 0\nin machine flat\nfill 77\ninstruction cut 00000000 bf800000\nend\n";
+    let case = read_cases(whole).unwrap().remove(0);
+    match case.work {
+        Work::Instruction(_, expected) => {
+            let place = [0.0_f32, -1.0].map(f32::to_bits);
+            assert_eq!(expected, Ok(Instruction::Cut(place)));
+        }
+        other => panic!("{:?}", other),
+    }
+    let spoilt = [
+        ("machine flat", "machine bed"),
+        ("in k 0", "in k -1"),
+        ("in turn empty\n", ""),
+        ("cut 00000000 bf800000", "cut 00000000"),
+        ("cut 00000000 bf800000", "lift 00000000 bf800000"),
+        ("bf800000", "bf80000g"),
+        ("instruction cut", "instruction fall"),
+        ("instruction cut 00000000 bf800000\n", ""),
+    ];
+    for (right, wrong) in spoilt {
+        assert!(
+            read_cases(&whole.replace(right, wrong)).is_err(),
+            "{}",
+            wrong
+        );
+    }
+}
+
+#[test]
 fn a_changed_case_is_noticed() {
     let cases = all_cases().unwrap();
     let changes: [fn(&mut Outcome); 3] = [
@@ -114,6 +152,10 @@ fn a_changed_case_is_noticed() {
     }
 }
 
+fn is_older(id: &str) -> bool {
+    id.starts_with("base/") || id.starts_with("M-100/")
+}
+
 /// A case from before M-101 is lent a turn list of one number an edge, to be left
 /// or to hold the places in which the numbers of the case rise.
 #[test]
@@ -121,7 +163,7 @@ fn older_cases_are_lent_a_turn_list() {
     let (mut filled, mut left) = (0, 0);
     for case in all_cases().unwrap() {
         let (call, expected) = match case.work {
-            Work::Assemble(call, expected) if !case.id.starts_with("M-101") => (call, expected),
+            Work::Assemble(call, expected) if is_older(&case.id) => (call, expected),
             _ => continue,
         };
         assert_eq!(call.turns, call.edges.len() / 5, "case {}", case.id);

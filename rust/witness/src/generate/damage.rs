@@ -10,7 +10,7 @@ use crate::declared::sufficient_rows;
 use crate::geometry::{read_edges, write_edges, Edge, Point, MOST_EDGES, NUMBERS_PER_EDGE};
 use crate::steps::{sweep_up, NUMBERS_PER_ROW};
 
-use super::{any, Random};
+use super::{any, Random, Sheet};
 
 /// A call that must get this refusal, one of those tried on an assembling call.
 pub fn damaged(random: &mut Random, refusal: u32) -> Call {
@@ -30,36 +30,52 @@ pub fn damaged(random: &mut Random, refusal: u32) -> Call {
 pub fn damage(random: &mut Random, call: &mut Call, refusal: u32) -> bool {
     let has_edges = !call.edges.is_empty();
     match refusal {
-        1 => part_of_an_edge(random, call),
-        2 => too_many_edges(random, call),
+        1 | 5 | 6 | 16 => damage_edges(random, &mut call.edges, refusal),
+        2 => {
+            damage_edges(random, &mut call.edges, refusal);
+            call.fit();
+            true
+        }
         3 => wrong_length(random, call),
         4 => has_edges && short_journal(random, call),
-        5 => has_edges && past_the_range(random, call),
-        6 => has_edges && equal_ends(random, call),
         7 => out_of_order(random, call),
         8 => has_edges && kind_taken(random, call),
         9 => has_edges && open_end(random, call),
         10 => too_few_rows(random, call),
-        16 => has_edges && no_such_film(random, call),
         _ => false,
     }
 }
 
-fn part_of_an_edge(random: &mut Random, call: &mut Call) -> bool {
-    for _ in 0..1 + random.below(NUMBERS_PER_EDGE - 1) {
-        call.edges.push(random.between(-3, 3));
+/// Spoils a list of edges for refusal 1, 2, 5, 16 or 6; `false` when it has no
+/// edge to be spoilt.
+pub fn damage_edges(random: &mut Random, edges: &mut Sheet, refusal: u32) -> bool {
+    if edges.is_empty() && refusal > 2 {
+        return false;
+    }
+    match refusal {
+        1 => part_of_an_edge(random, edges),
+        2 => too_many_edges(random, edges),
+        5 => past_the_range(random, edges),
+        16 => no_such_film(random, edges),
+        _ => equal_ends(random, edges),
     }
     true
 }
 
-fn too_many_edges(random: &mut Random, call: &mut Call) -> bool {
+/// Adds numbers that make no whole edge.
+fn part_of_an_edge(random: &mut Random, edges: &mut Sheet) {
+    for _ in 0..1 + random.below(NUMBERS_PER_EDGE - 1) {
+        edges.push(random.between(-3, 3));
+    }
+}
+
+/// Repeats the edges until they are too many.
+fn too_many_edges(random: &mut Random, list: &mut Sheet) {
     let length = MOST_EDGES + 1 + random.below(3);
-    let mut edges = read_edges(&call.edges);
+    let mut edges = read_edges(list);
     edges.push(Edge::new(Point::new(0, 0), Point::new(1, 1), 0));
     let repeated: Vec<Edge> = edges.iter().copied().cycle().take(length).collect();
-    call.edges = write_edges(&repeated);
-    call.fit();
-    true
+    *list = write_edges(&repeated);
 }
 
 fn wrong_length(random: &mut Random, call: &mut Call) -> bool {
@@ -87,36 +103,36 @@ fn short_journal(random: &mut Random, call: &mut Call) -> bool {
     true
 }
 
-fn past_the_range(random: &mut Random, call: &mut Call) -> bool {
-    let edge = random.below(call.edges.len() / NUMBERS_PER_EDGE);
+/// Puts a coordinate of some edge past the range.
+fn past_the_range(random: &mut Random, edges: &mut Sheet) {
+    let edge = random.below(edges.len() / NUMBERS_PER_EDGE);
     let number = NUMBERS_PER_EDGE * edge + random.below(4);
     let past = random.between(Point::LIMIT + 1, i32::MAX);
     let past = [Point::LIMIT + 1, i32::MAX, past][random.below(3)];
-    call.edges[number] = if random.one_in(2) { past } else { -past };
+    edges[number] = if random.one_in(2) { past } else { -past };
     if random.one_in(16) {
-        call.edges[number] = i32::MIN;
+        edges[number] = i32::MIN;
     }
-    true
 }
 
-fn no_such_film(random: &mut Random, call: &mut Call) -> bool {
-    let mut edges = read_edges(&call.edges);
+/// Puts some edge in a film that there is not.
+fn no_such_film(random: &mut Random, list: &mut Sheet) {
+    let mut edges = read_edges(list);
     let below = random.between(i32::MIN, -1);
     let above = random.between(Edge::MOST_FILM + 1, i32::MAX);
     let films = [-1, Edge::MOST_FILM + 1, i32::MIN, i32::MAX, below, above];
     let place = random.below(edges.len());
     edges[place].film = films[random.below(films.len())];
-    call.edges = write_edges(&edges);
-    true
+    *list = write_edges(&edges);
 }
 
-fn equal_ends(random: &mut Random, call: &mut Call) -> bool {
-    let mut edges = read_edges(&call.edges);
+/// Makes some edge end where it begins.
+fn equal_ends(random: &mut Random, list: &mut Sheet) {
+    let mut edges = read_edges(list);
     let place = random.below(edges.len());
     let end = [edges[place].tail, edges[place].head][random.below(2)];
     edges[place] = Edge::new(end, end, edges[place].film);
-    call.edges = write_edges(&edges);
-    true
+    *list = write_edges(&edges);
 }
 
 /// Moves an edge to before one that has a lower top.

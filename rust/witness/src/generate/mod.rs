@@ -1,8 +1,10 @@
 //! Sheets for tests: every maker here gives an edge list that is sound and in
 //! sweep order by document 01, with edges of equal tops in random order, in one
 //! film or several. All chance comes from a `Random`, whose seed is printed when
-//! a test fails. `damage` spoils a call so that a chosen refusal must come.
+//! a test fails. `damage` and `spoil_cutting` spoil a call so that a chosen refusal
+//! must come.
 
+mod cuts;
 mod damage;
 mod drawn;
 mod films;
@@ -14,6 +16,7 @@ mod sound;
 mod soups;
 mod walks;
 
+pub use cuts::{any_cutting, cutting, spoil_cutting};
 pub use damage::{damage, damaged};
 pub use drawn::{comb, spiral, squares};
 pub use films::{in_films, layered, some_films};
