@@ -2,11 +2,12 @@
 //! rubbish. The answers must be the same, and so must every number of every
 //! slice.
 
-use witness::call::{Call, Outcome, TurnCall};
+use witness::call::{Call, CutCall, Outcome, TurnCall};
 use witness::generate::Random;
-use witness::{Answer, Refusal, TurnAnswer};
+use witness::{Answer, Instruction, Machine, Refusal, TurnAnswer};
 
 use crate::guarded::{rubbish, Guarded};
+use crate::page_end::AtPageEnd;
 
 /// The five lent slices of an assembling call.
 struct Lent {
@@ -120,6 +121,70 @@ pub fn turns(random: &mut Random, call: &TurnCall) -> TurnAnswer {
     assert!(polygons.held() == call.polygons && sequences.held() == call.sequences);
     assert_eq!(turns.held(), list, "the turn list of {:?}", call);
     wanted
+}
+
+/// Makes a call for an instruction of both, twice of the engine: on guarded
+/// slices, and on slices at the end of memory that cannot be written. Gives the
+/// answer that they agree on.
+///
+/// # Panics
+/// When they differ, or when the engine has written anywhere.
+pub fn instruction(random: &mut Random, call: &CutCall) -> Result<Instruction, Refusal> {
+    let wanted = call.answer();
+    let mut edges = Guarded::copy(random, &call.edges);
+    let lists = [&call.polygons, &call.sequences, &call.turns];
+    let mut copies = lists.map(|list| Guarded::copy(random, list));
+    let [polygons, sequences, turns] = &mut copies;
+    let lent = [polygons.lent(), sequences.lent(), turns.lent()].map(|list| &*list);
+    let given = asked(call.machine, edges.lent(), lent, call.k);
+    assert_eq!(given, wanted, "the answer to {:?}", call);
+    assert!(edges.held() == call.edges, "the edges are changed");
+    for (copy, list) in copies.iter().zip(lists) {
+        assert!(copy.held() == list, "a list is changed");
+    }
+    let edges = AtPageEnd::copy(&call.edges);
+    let lists = lists.map(|list| AtPageEnd::copy(list));
+    let [polygons, sequences, turns] = &lists;
+    let lent = [polygons.lent(), sequences.lent(), turns.lent()];
+    let again = asked(call.machine, edges.lent(), lent, call.k);
+    assert_eq!(
+        again, wanted,
+        "the answer at the end of memory to {:?}",
+        call
+    );
+    wanted
+}
+
+/// The engine's answer to a call for an instruction, in the witness's words; the
+/// lists are those of polygons, sequences and turns.
+pub fn asked(
+    machine: Machine,
+    edges: &[i32],
+    lists: [&[u32]; 3],
+    k: u32,
+) -> Result<Instruction, Refusal> {
+    let [polygons, sequences, turns] = lists;
+    let machine = engines(machine);
+    let answer = outline::instruction(machine, edges, polygons, sequences, turns, k);
+    answer.map(told).map_err(refused)
+}
+
+/// A machine in the engine's words.
+pub fn engines(machine: Machine) -> outline::Machine {
+    match machine {
+        Machine::Flatbed => outline::Machine::Flatbed,
+        Machine::RollFeeder => outline::Machine::RollFeeder,
+    }
+}
+
+/// The engine's instruction in the witness's words, to the bit.
+pub fn told(instruction: outline::Instruction) -> Instruction {
+    let bits = |place: outline::Place| [place.first.to_bits(), place.second.to_bits()];
+    match instruction {
+        outline::Instruction::Travel(place) => Instruction::Travel(bits(place)),
+        outline::Instruction::Cut(place) => Instruction::Cut(bits(place)),
+        outline::Instruction::Lift => Instruction::Lift,
+    }
 }
 
 /// The engine's answer in the witness's words.

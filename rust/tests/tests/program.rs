@@ -68,7 +68,7 @@ fn the_cases_of_the_vectors() {
             cases += 1;
         }
     }
-    assert_eq!(cases, 127);
+    assert_eq!(cases, 163);
 }
 
 #[test]

@@ -3,7 +3,7 @@
 //! not from the witness.
 
 use outline::turns;
-use tests::held::{outcome, turned};
+use tests::held::{asked, outcome, turned};
 use witness::vectors::{all_cases, Work};
 use witness::worked::{accepted_by_document_01, accepted_in_films};
 use witness::worked::{refused_by_document_01, refused_for_films};
@@ -19,7 +19,7 @@ fn by_hand() {
 
 #[test]
 fn every_case_of_the_vectors() {
-    let (mut assemble_cases, mut turn_cases) = (0, 0);
+    let (mut assemble_cases, mut turn_cases, mut cut_cases) = (0, 0, 0);
     for case in all_cases().unwrap() {
         match case.work {
             Work::Assemble(call, expected) => {
@@ -31,8 +31,14 @@ fn every_case_of_the_vectors() {
                 assert_eq!(outcome, expected, "case {}", case.id);
                 turn_cases += 1;
             }
+            Work::Instruction(call, expected) => {
+                let lists: [&[u32]; 3] = [&call.polygons, &call.sequences, &call.turns];
+                let answer = asked(call.machine, &call.edges, lists, call.k);
+                assert_eq!(answer, expected, "case {}", case.id);
+                cut_cases += 1;
+            }
             Work::Program(..) => {}
         }
     }
-    assert_eq!((assemble_cases, turn_cases), (281, 96));
+    assert_eq!((assemble_cases, turn_cases, cut_cases), (350, 136, 111));
 }
