@@ -1,33 +1,42 @@
-//! The commands `outline-svg` and `pixel-art`: what they write where, and their
-//! exit status.
+//! The commands `outline-svg`, `outline-cut` and `pixel-art`: what they write
+//! where, and their exit status.
 
 use std::env;
 use std::io::Write;
-use std::process::{Command, Output, Stdio};
+use std::os::unix::io::OwnedFd;
+use std::os::unix::net::UnixStream;
+use std::process::{Child, Command, Output, Stdio};
 
 /// Where cargo is told how to run what it has built for x86-64.
 const RUNNER: &str = "CARGO_TARGET_X86_64_UNKNOWN_LINUX_GNU_RUNNER";
 
 /// The commands.
 const SVG: &str = env!("CARGO_BIN_EXE_outline-svg");
+const CUT: &str = env!("CARGO_BIN_EXE_outline-cut");
 const PIXELS: &str = env!("CARGO_BIN_EXE_pixel-art");
 
-/// Runs a command with these arguments and this input.
-fn run(command: &str, arguments: &[&str], input: &[u8]) -> Output {
+/// Starts a command with these arguments, a pipe for its input, and this for its
+/// output.
+fn started(command: &str, arguments: &[&str], output: Stdio) -> Child {
     let words = [env::var(RUNNER).unwrap_or_default()];
     let runner = words
         .iter()
         .map(String::as_str)
         .filter(|word| !word.is_empty());
     let mut words = runner.chain([command]);
-    let mut child = Command::new(words.next().unwrap())
+    Command::new(words.next().unwrap())
         .args(words)
         .args(arguments)
         .stdin(Stdio::piped())
-        .stdout(Stdio::piped())
+        .stdout(output)
         .stderr(Stdio::piped())
         .spawn()
-        .unwrap();
+        .unwrap()
+}
+
+/// Runs a command with these arguments and this input.
+fn run(command: &str, arguments: &[&str], input: &[u8]) -> Output {
+    let mut child = started(command, arguments, Stdio::piped());
     child.stdin.take().unwrap().write_all(input).unwrap();
     child.wait_with_output().unwrap()
 }
@@ -74,15 +83,115 @@ fn a_refused_sheet() {
 }
 
 #[test]
-fn a_command_that_is_not_understood() {
-    for arguments in [&["-x"][..], &["a", "b"][..], &["no/such/sheet.txt"][..]] {
-        let output = run(SVG, arguments, b"");
-        assert_eq!(output.status.code(), Some(2));
-        assert!(output.stdout.is_empty() && !output.stderr.is_empty());
-    }
-    let output = run(SVG, &["--help"], b"");
+fn the_way_of_the_blade() {
+    let edges = outline::text::read_sheet(TRIANGLE).unwrap();
+    let drawn = outline::picture::draw_blade(&edges).unwrap();
+    let output = run(SVG, &["--blade"], TRIANGLE);
     assert_eq!(output.status.code(), Some(0));
-    assert!(text(&output.stdout).starts_with("outline-svg: draw"));
+    assert_eq!(text(&output.stdout), drawn);
+}
+
+const FLATBED: &str = "\
+travel 0.015625 0.078125
+cut 0 0
+cut 0.0625 0.03125
+cut 0.015625 0.078125
+lift
+";
+
+const ROLL_FEEDER: &str = "\
+travel 0.078125 -0.015625
+cut 0 0
+cut 0.03125 -0.0625
+cut 0.078125 -0.015625
+lift
+";
+
+#[test]
+fn instructions_from_standard_input() {
+    let cases = [
+        (&[][..], FLATBED),
+        (&["-"][..], FLATBED),
+        (&["--flatbed"][..], FLATBED),
+        (&["--roll-feeder"][..], ROLL_FEEDER),
+        (&["-", "--roll-feeder"][..], ROLL_FEEDER),
+    ];
+    for (arguments, expected) in cases {
+        let output = run(CUT, arguments, TRIANGLE);
+        assert_eq!(output.status.code(), Some(0));
+        assert_eq!(text(&output.stdout), expected);
+        assert_eq!(text(&output.stderr), "");
+    }
+    let output = run(CUT, &[], b"");
+    assert_eq!((output.status.code(), output.stdout.len()), (Some(0), 0));
+}
+
+/// A line an instruction, as many as edges and two more for each outline.
+#[test]
+fn instructions_from_a_file() {
+    let output = run(CUT, &["--roll-feeder", &sample("touching.txt")], b"");
+    assert_eq!(output.status.code(), Some(0));
+    let printed = text(&output.stdout);
+    assert_eq!(printed.lines().count(), 7 + 2 * 2);
+    assert!(printed.starts_with("travel 0.140625 0\ncut 0.09375 -0.015625\n"));
+}
+
+/// Nothing is printed of a sheet that is refused, and one line says why.
+#[test]
+fn a_refused_sheet_is_not_cut() {
+    let output = run(CUT, &["--roll-feeder"], b"0 0 4 2 0\n4 2 1 5 0\n");
+    assert_eq!(output.status.code(), Some(1));
+    assert_eq!(text(&output.stdout), "");
+    let message = text(&output.stderr);
+    let begin = "outline-cut: standard input: refused 9 0 (line 1): edge 0 (counted from 0) has ";
+    assert!(message.starts_with(begin), "{}", message);
+    assert_eq!(message.lines().count(), 1);
+}
+
+/// A write that fails is said, on a full device and where nobody reads.
+#[test]
+fn instructions_that_cannot_be_written() {
+    let full = std::fs::OpenOptions::new().write(true).open("/dev/full");
+    let (reader, writer) = UnixStream::pair().unwrap();
+    drop(reader);
+    let outputs = [
+        Stdio::from(full.unwrap()),
+        Stdio::from(OwnedFd::from(writer)),
+    ];
+    for output in outputs {
+        let mut child = started(CUT, &[], output);
+        child.stdin.take().unwrap().write_all(TRIANGLE).unwrap();
+        let ended = child.wait_with_output().unwrap();
+        assert_eq!(ended.status.code(), Some(2));
+        let message = text(&ended.stderr);
+        assert!(message.starts_with("outline-cut: cannot write: "));
+        assert_eq!(message.lines().count(), 1);
+    }
+}
+
+#[test]
+fn a_command_that_is_not_understood() {
+    let wrong = [
+        &["-x"][..],
+        &["a", "b"][..],
+        &["no/such/sheet.txt"][..],
+        &["--help", "a"][..],
+    ];
+    for command in [SVG, CUT] {
+        for arguments in wrong {
+            let output = run(command, arguments, b"");
+            assert_eq!(output.status.code(), Some(2));
+            assert!(output.stdout.is_empty());
+            assert_eq!(text(&output.stderr).lines().count(), 1);
+        }
+    }
+    let both = run(CUT, &["--flatbed", "--roll-feeder"], b"");
+    assert_eq!((both.status.code(), both.stdout.len()), (Some(2), 0));
+    for (command, begin) in [(SVG, "outline-svg: draw"), (CUT, "outline-cut: print")] {
+        let output = run(command, &["--help"], b"");
+        assert_eq!(output.status.code(), Some(0));
+        assert!(text(&output.stdout).starts_with(begin));
+    }
 }
 
 /// A file of the samples.

@@ -4,7 +4,7 @@
 
 use std::collections::BTreeSet;
 
-use outline::picture::{draw, MOST_NUMBERED};
+use outline::picture::{draw, draw_blade, MOST_NUMBERED};
 use outline::NUMBERS_PER_EDGE;
 
 /// Two outlines with the point (1, 6) in common, the upper one in this film.
@@ -202,4 +202,75 @@ fn sheets_of_every_extent() {
 #[test]
 fn a_refused_sheet_has_no_picture() {
     assert_eq!(draw(&[5, 5, 5, 5, 0]).unwrap_err().number(), 6);
+    assert_eq!(draw_blade(&[5, 5, 5, 5, 0]).unwrap_err().number(), 6);
+}
+
+/// The ends of the travels of a picture, without that of the legend.
+fn travels(svg: &str) -> Vec<[&str; 4]> {
+    let lines = svg.lines().filter(|line| line.contains("class=\"travel\""));
+    let mut ends: Vec<[&str; 4]> = lines
+        .map(|line| ["x1", "y1", "x2", "y2"].map(|end| values(line, end)[0]))
+        .collect();
+    ends.pop();
+    ends
+}
+
+/// Where the blade comes down, without the mark of the legend.
+fn downs(svg: &str) -> Vec<[&str; 2]> {
+    let marks = svg.lines().filter(|line| line.contains("class=\"down\""));
+    let mut spots: Vec<[&str; 2]> = marks
+        .map(|line| ["cx", "cy"].map(|at| values(line, at)[0]))
+        .collect();
+    spots.pop();
+    spots
+}
+
+/// Travels lead from one outline's start to the next one's, and there is none to
+/// the first.
+#[test]
+fn the_way_of_the_blade() {
+    let svg = draw_blade(&touching(1)).unwrap();
+    check_well_formed(&svg);
+    check_fits(&svg);
+    assert_eq!(count(&svg, "cut"), 2);
+    let (downs, travels) = (downs(&svg), travels(&svg));
+    assert_eq!((downs.len(), travels.len()), (2, 1));
+    assert_eq!(travels[0].to_vec(), downs.concat());
+    assert!(svg.contains(">travel with the blade up</text>"));
+    assert!(svg.contains(", instructions: 11</title>"));
+    let cuts = svg.lines().filter(|line| line.contains("class=\"cut\""));
+    for (cut, down) in cuts.zip(downs) {
+        let way = values(cut, "d")[0].trim_start_matches('M');
+        let spots: Vec<&str> = way.split('L').collect();
+        assert_eq!(spots[0], down.join(" "));
+        assert_eq!(spots.first(), spots.last());
+    }
+}
+
+/// Outlines of several films that begin at one point: nothing is travelled.
+#[test]
+fn no_way_between_equal_starts() {
+    let edges = (0..10).flat_map(|film| [[0, 0, 9, 9, film], [9, 9, 0, 0, film]]);
+    let svg = draw_blade(&edges.flatten().collect::<Vec<i32>>()).unwrap();
+    check_fits(&svg);
+    assert_eq!((downs(&svg).len(), travels(&svg).len()), (10, 0));
+    assert!(!svg.contains("NaN"));
+}
+
+#[test]
+fn the_blade_on_sheets_of_every_size() {
+    for (sheet, numbered) in [
+        (Vec::new(), true),
+        (squares(100), true),
+        (squares(101), false),
+    ] {
+        let outlines = sheet.len() / NUMBERS_PER_EDGE / 4;
+        let svg = draw_blade(&sheet).unwrap();
+        check_well_formed(&svg);
+        check_fits(&svg);
+        assert_eq!(count(&svg, "cut"), outlines);
+        assert_eq!(travels(&svg).len(), outlines.saturating_sub(1));
+        let discs = if numbered { outlines + 1 } else { 0 };
+        assert_eq!(count(&svg, "top"), discs);
+    }
 }

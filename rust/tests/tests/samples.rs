@@ -4,7 +4,7 @@
 use std::fs;
 use std::path::{Path, PathBuf};
 
-use outline::{picture, text, Outlines};
+use outline::{picture, text, Outlines, Refusal};
 use witness::declared::touching_sites;
 use witness::geometry::{read_edges, twice_area, Edge};
 use witness::worked::TRIANGLE;
@@ -41,15 +41,21 @@ fn the_touching_sheet() {
     assert_eq!(touching_sites(&read_edges(&touching)).len(), 1);
 }
 
+/// The picture of a sample sheet is the one that is drawn of it.
+fn check_picture(name: &str, draw: fn(&[i32]) -> Result<String, Refusal>, options: &str) {
+    let (text, svg) = (format!("{name}.txt"), format!("{name}{options}.svg"));
+    let drawn = draw(&sheet(&text)).unwrap();
+    assert!(
+        drawn.as_bytes() == bytes(&svg),
+        "samples/{svg} is not what outline-svg draws of samples/{text}"
+    );
+}
+
 #[test]
 fn the_pictures() {
-    for name in ["touching", "portrait"] {
-        let drawn = picture::draw(&sheet(&format!("{name}.txt"))).unwrap();
-        assert!(
-            drawn.as_bytes() == bytes(&format!("{name}.svg")),
-            "samples/{name}.svg is not what outline-svg draws of samples/{name}.txt"
-        );
-    }
+    check_picture("touching", picture::draw, "");
+    check_picture("portrait", picture::draw, "");
+    check_picture("portrait", picture::draw_blade, "-blade");
 }
 
 /// A face in film 0 and a scarf in film 1, which share the three sides of the

@@ -1,5 +1,6 @@
 //! A line under the drawing that says what its marks mean.
 
+use super::blade::{draw_dashes, draw_down};
 use super::canvas::Canvas;
 use super::frame::Frame;
 use super::marks::{draw_disc, draw_dot, draw_ring};
@@ -26,6 +27,21 @@ pub fn draw(sheet: &Sheet, frame: &Frame, canvas: &mut Canvas) {
     if !sheet.touching.is_empty() {
         draw_ring(at(358.0), 0.6, canvas);
         write(at(374.0), "four edges meet", canvas);
+    }
+}
+
+/// Draws the legend of the blade's way.
+pub fn draw_blade(frame: &Frame, canvas: &mut Canvas) {
+    let at = |right: f64| frame.legend() + Spot::new(right, 0.0);
+    draw_down(at(0.0), 1.0, canvas);
+    write(at(10.0), "the blade comes down", canvas);
+    draw_arrow(at(150.0), canvas);
+    write(at(178.0), "cut", canvas);
+    draw_dashes(at(216.0), at(242.0), 1.0, canvas);
+    write(at(250.0), "travel with the blade up", canvas);
+    if frame.numbered {
+        draw_disc(at(412.0), 0.85, COLOUR, "n", canvas);
+        write(at(426.0), "outline n", canvas);
     }
 }
 

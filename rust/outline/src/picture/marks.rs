@@ -11,11 +11,13 @@ use super::plane::Spot;
 use super::sheet::{Point, Round, Sheet};
 
 /// Sizes at which marks are drawn where edges lie as far apart as wanted.
-const LINE: f64 = 2.2;
 const CORE: f64 = 1.2;
 const ARROW: f64 = 9.0;
 const DOT: f64 = 5.5;
 const DASH: f64 = 6.0;
+
+/// The width of an outline's line.
+pub const LINE: f64 = 2.2;
 
 /// The radius of a top's disc.
 pub const DISC: f64 = 9.5;
@@ -39,7 +41,7 @@ pub fn draw(sheet: &Sheet, frame: &Frame, canvas: &mut Canvas) {
 /// Film lies on the left of each edge: an outline that holds film is tinted, a
 /// hole is white. The larger come first, so that a hole lies on its surround,
 /// and a hole before another film that fills it.
-fn draw_film(sheet: &Sheet, frame: &Frame, canvas: &mut Canvas) {
+pub fn draw_film(sheet: &Sheet, frame: &Frame, canvas: &mut Canvas) {
     let mut rounds: Vec<&Round> = sheet.rounds.iter().collect();
     rounds.sort_by_key(|round| (Reverse(round.area().abs()), round.area() > 0));
     canvas.open("stroke=\"none\" fill-rule=\"evenodd\"");
@@ -130,7 +132,7 @@ impl Way {
 
 /// A triangle that begins at the middle of the edge and points to its head. Two
 /// edges that lie on one another the opposite way both show theirs.
-fn arrow_head(way: &Way, size: f64) -> String {
+pub fn arrow_head(way: &Way, size: f64) -> String {
     let long = (ARROW * size).min(0.4 * way.length);
     let half = way.along.left() * (0.42 * long);
     let tip = way.middle + way.along * long;

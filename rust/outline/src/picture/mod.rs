@@ -1,8 +1,10 @@
 //! A sheet drawn as SVG: every outline in the colour of its film with its number
 //! at its top, every edge with an arrow head and its sequence number, a ring
-//! round every point where four edges of a film meet, y upwards. The same list
-//! gives the same bytes on every machine.
+//! round every point where four edges of a film meet, y upwards. Or the way of
+//! the blade along the outlines. The same list gives the same bytes on every
+//! machine.
 
+mod blade;
 mod canvas;
 mod colour;
 mod frame;
@@ -15,6 +17,7 @@ mod sheet;
 use crate::outlines::Outlines;
 use crate::refusal::Refusal;
 
+use blade::Blade;
 use canvas::Canvas;
 use frame::Frame;
 use sheet::Sheet;
@@ -31,7 +34,7 @@ pub const MOST_NUMBERED: usize = 400;
 /// ```
 pub fn draw(edges: &[i32]) -> Result<String, Refusal> {
     let outlines = Outlines::of(edges)?;
-    let sheet = Sheet::new(edges, &outlines);
+    let sheet = Sheet::new(&outlines);
     let frame = Frame::around(&sheet);
     let mut canvas = Canvas::new(&frame, &title(&sheet, &outlines));
     frame.draw_grid(&mut canvas);
@@ -40,6 +43,32 @@ pub fn draw(edges: &[i32]) -> Result<String, Refusal> {
         numbers::draw(&sheet, &frame, &mut canvas);
     }
     legend::draw(&sheet, &frame, &mut canvas);
+    Ok(canvas.finish())
+}
+
+/// Numbers a list and draws the way of the blade: a mark where it comes down, a
+/// line in the film's colour where it cuts, and a dashed one where the head
+/// travels from one outline to the next. From where it travels to the first is
+/// not known, and not drawn.
+///
+/// ```
+/// let svg = outline::picture::draw_blade(&[0, 0, 4, 2, 7, 4, 2, 1, 5, 7, 1, 5, 0, 0, 7])?;
+/// assert!(svg.contains("instructions: 5</title>"));
+/// # Ok::<(), outline::Refusal>(())
+/// ```
+pub fn draw_blade(edges: &[i32]) -> Result<String, Refusal> {
+    let outlines = Outlines::of(edges)?;
+    let (sheet, blade) = (Sheet::new(&outlines), Blade::of(&outlines));
+    let frame = Frame::around(&sheet);
+    let title = format!(
+        "The way of the blade. {}, instructions: {}",
+        title(&sheet, &outlines),
+        blade.count
+    );
+    let mut canvas = Canvas::new(&frame, &title);
+    frame.draw_grid(&mut canvas);
+    blade.draw(&sheet, &frame, &mut canvas);
+    legend::draw_blade(&frame, &mut canvas);
     Ok(canvas.finish())
 }
 

@@ -49,8 +49,9 @@ pub struct Sheet {
 }
 
 impl Sheet {
-    /// The sheet of a list and its numbering.
-    pub fn new(edges: &[i32], outlines: &Outlines) -> Sheet {
+    /// The sheet of a list that is numbered.
+    pub fn new(outlines: &Outlines) -> Sheet {
+        let edges = outlines.edges();
         let tail = |place: &u32| {
             let at = NUMBERS_PER_EDGE * *place as usize;
             (edges[at], edges[at + 1])
