@@ -3,13 +3,13 @@
  *
  * The engine takes the directed edges of a drawing in sweep order, gives each
  * edge the number of the closed outline that it belongs to and its place round
- * that outline, and lists the edges in the order in which they are cut. It is
- * proved; it comes as libdesk.a, which `rt staticlib desk` writes to
- * target/staticlib.
+ * that outline, and lists the edges in the order in which they are cut. From
+ * these it gives the instructions for two kinds of cutter. It is proved; it
+ * comes as libdesk.a, which `rt staticlib desk` writes to target/staticlib.
  *
  *     cc program.c -I include target/staticlib/libdesk.a
  *
- * Both functions work only in the memory that they are handed. They allocate
+ * The functions work only in the memory that they are handed. They allocate
  * nothing, keep nothing between calls, call nothing back, and may be called
  * from several threads at once. A slice is a pointer and a length counted in
  * numbers, not in bytes. Any length and any contents are allowed: what does not
@@ -36,17 +36,20 @@ enum {
     OUTLINE_MOST_FILM = 255,              /* films: 0 to this one */
     OUTLINE_JOURNAL_NUMBERS_PER_EDGE = 8, /* to lend, at least */
     OUTLINE_NUMBERS_PER_RECORD = 4,       /* level, name, row, offset */
-    OUTLINE_NUMBERS_PER_ROW = 8           /* to lend for each row */
+    OUTLINE_NUMBERS_PER_ROW = 8,          /* to lend for each row */
+    OUTLINE_UNITS_PER_MILLIMETRE = 64     /* of coordinates */
 };
 
 /*
  * The refusals, by number; the words are those of docs/REFUSALS.md. `place` is
- * the place of an edge in the list, from 0, where an edge is named below, and 0
- * otherwise.
+ * the place of an edge in the list, from 0, where an edge is named below, a
+ * position in the turn list, from 0, for 24, and 0 otherwise.
  *
  * 1 to 4 are tried first. Then the first edge with any of 5, 16, 6, 7 decides,
  * in that order within an edge. Then 8 is tried over the whole list, then 9,
- * then 10. Likewise 11, 12, 13 and 14 one after the other.
+ * then 10. Likewise 11, 12, 13 and 14 one after the other. For an instruction
+ * 1 and 2 are tried first, then the first edge with any of 5, 16, 6 decides; then
+ * come 11 to 14, 24, 25 and 18.
  */
 enum {
     OUTLINE_ACCEPTED = 0,
@@ -67,13 +70,27 @@ enum {
     OUTLINE_NO_ROW = 10,        /* too few rows: when it was treated */
     OUTLINE_FILM_PAST_RANGE = 16, /* the edge has a film past 0 to 255 */
     /* outline_turns */
-    OUTLINE_TURN_LENGTHS = 11,  /* the lengths differ, or are above 4,096 */
+    OUTLINE_TURN_LENGTHS = 11,  /* the lengths differ, or are above 4,096, or
+                                   for an instruction not one an edge */
     OUTLINE_NO_POLYGON = 12,    /* the edge has polygon number 0 */
     OUTLINE_PAIR_REPEATED = 13, /* an earlier edge has both its numbers */
     OUTLINE_GAP = 14,           /* no edge stands one before it, in its polygon
                                    or among polygons */
-    /* neither of the two: the program outline, which reads text */
+    /* outline_flatbed, outline_roll_feeder */
+    OUTLINE_PAST_LAST = 18,     /* there are not so many instructions */
+    OUTLINE_TURNS_DIFFER = 24,  /* the turn list is not that of the numbers;
+                                   place: the first position that differs */
+    OUTLINE_HEAD_NOT_TAIL = 25, /* the edge does not end where the next of its
+                                   outline begins; the first in turn order */
+    /* none of these: the program outline, which reads text */
     OUTLINE_MALFORMED = 15      /* place: the first malformed line, from 1 */
+};
+
+/* What an instruction is. */
+enum {
+    OUTLINE_TRAVEL = 0, /* go to the place with the blade up */
+    OUTLINE_CUT = 1,    /* go to the place with the blade down */
+    OUTLINE_LIFT = 2    /* raise the blade where it is */
 };
 
 /* The answer of outline_assemble. */
@@ -91,6 +108,15 @@ typedef struct {
     uint32_t place;    /* accepted: 0 */
     uint32_t polygons; /* how many outlines; refused: 0 */
 } outline_turned;
+
+/* The answer of outline_flatbed and of outline_roll_feeder. */
+typedef struct {
+    uint32_t refusal; /* 0: accepted */
+    uint32_t place;   /* accepted: 0 */
+    uint32_t what;    /* travel, cut or lift; refused: 0 */
+    float x;          /* the first number of the place in millimetres */
+    float y;          /* the second; both are +0 for a lift and a refusal */
+} outline_cut;
 
 /*
  * Numbers a list of edges and puts them in turn.
@@ -143,6 +169,39 @@ outline_sheet outline_assemble(const int32_t *edges, size_t edges_length,
 outline_turned outline_turns(const uint32_t *polygons, size_t polygons_length,
                              const uint32_t *sequences, size_t sequences_length,
                              uint32_t *turns, size_t turns_length);
+
+/*
+ * The k-th instruction, from 0, for the outlines of a sheet that is numbered and
+ * put in turn, by outline_assemble or elsewhere. For each outline in the order of
+ * the polygon numbers: travel to the tail of its edge 0, cut to the head of each
+ * of its edges in sequence order, the last leading back to the start, lift. That
+ * is n + 2 instructions for n edges; after the last of all comes refusal 18.
+ *
+ *   edges      five numbers an edge, in any order.
+ *   polygons,  one number an edge: its outline, from 1, and its place round it,
+ *   sequences  from 0; any numbering that outline_turns accepts.
+ *   turns      the turn list that outline_turns reads from these two.
+ *   k          which instruction.
+ *
+ * Each edge must end at the point where the next of its outline begins, and the
+ * last where edge 0 begins, whatever the films. Nothing is written.
+ *
+ * The flatbed takes x and then y. The roll feeder takes y and then x negated.
+ * Both are exact, and a zero is always +0.
+ */
+outline_cut outline_flatbed(const int32_t *edges, size_t edges_length,
+                            const uint32_t *polygons, size_t polygons_length,
+                            const uint32_t *sequences, size_t sequences_length,
+                            const uint32_t *turns, size_t turns_length,
+                            uint32_t k);
+
+outline_cut outline_roll_feeder(const int32_t *edges, size_t edges_length,
+                                const uint32_t *polygons,
+                                size_t polygons_length,
+                                const uint32_t *sequences,
+                                size_t sequences_length,
+                                const uint32_t *turns, size_t turns_length,
+                                uint32_t k);
 
 #ifdef __cplusplus
 }

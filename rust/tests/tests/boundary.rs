@@ -1,4 +1,4 @@
-//! The two functions as they are exported, with nothing of the safe crate
+//! The functions as they are exported, with nothing of the safe crate
 //! between: what the answers hold in the fields that do not apply, a C program
 //! that includes the header and is linked with the same archive, and that the
 //! archive exports nothing else.
@@ -10,10 +10,11 @@ use std::path::{Path, PathBuf};
 use std::process::Command;
 
 use tests::process::start;
-use witness::call::{Call, TurnCall};
+use witness::call::{Call, CutCall, TurnCall};
 use witness::checks::IN_ORDER;
-use witness::generate::{any, damaged, Random, Seed};
-use witness::{Answer, Refusal, TurnAnswer};
+use witness::generate::{any, any_cutting, damaged, spoil_cutting, Random, Seed};
+use witness::instructions::CUT_IN_ORDER;
+use witness::{Answer, Instruction, Machine, Refusal, TurnAnswer};
 
 #[repr(C)]
 #[derive(Clone, Copy, PartialEq, Eq, Debug)]
@@ -31,6 +32,16 @@ struct Turned {
     refusal: u32,
     place: u32,
     polygons: u32,
+}
+
+#[repr(C)]
+#[derive(Clone, Copy)]
+struct Cut {
+    refusal: u32,
+    place: u32,
+    what: u32,
+    x: f32,
+    y: f32,
 }
 
 extern "C" {
@@ -57,6 +68,30 @@ extern "C" {
         turns: *mut u32,
         turns_length: usize,
     ) -> Turned;
+
+    fn outline_flatbed(
+        edges: *const i32,
+        edges_length: usize,
+        polygons: *const u32,
+        polygons_length: usize,
+        sequences: *const u32,
+        sequences_length: usize,
+        turns: *const u32,
+        turns_length: usize,
+        k: u32,
+    ) -> Cut;
+
+    fn outline_roll_feeder(
+        edges: *const i32,
+        edges_length: usize,
+        polygons: *const u32,
+        polygons_length: usize,
+        sequences: *const u32,
+        sequences_length: usize,
+        turns: *const u32,
+        turns_length: usize,
+        k: u32,
+    ) -> Cut;
 }
 
 /// The engine's own answer to a call.
@@ -103,6 +138,30 @@ fn turned(call: &TurnCall) -> Turned {
     }
 }
 
+/// The same for an instruction: refusal, place, what, and the bits of x and y.
+fn cut(call: &CutCall) -> [u32; 5] {
+    let function = match call.machine {
+        Machine::Flatbed => outline_flatbed,
+        Machine::RollFeeder => outline_roll_feeder,
+    };
+    // SAFETY: as above.
+    let cut = unsafe {
+        function(
+            call.edges.as_ptr(),
+            call.edges.len(),
+            call.polygons.as_ptr(),
+            call.polygons.len(),
+            call.sequences.as_ptr(),
+            call.sequences.len(),
+            call.turns.as_ptr(),
+            call.turns.len(),
+            call.k,
+        )
+    };
+    let (x, y) = (cut.x.to_bits(), cut.y.to_bits());
+    [cut.refusal, cut.place, cut.what, x, y]
+}
+
 /// What the fields must be for an answer of the witness.
 fn fields(answer: Answer) -> Sheet {
     let (refusal, place, polygons, peak, records) = match answer {
@@ -131,6 +190,15 @@ fn turn_fields(answer: TurnAnswer) -> Turned {
         refusal,
         place,
         polygons,
+    }
+}
+
+fn cut_fields(answer: Result<Instruction, Refusal>) -> [u32; 5] {
+    match answer {
+        Ok(Instruction::Travel([x, y])) => [0, 0, 0, x, y],
+        Ok(Instruction::Cut([x, y])) => [0, 0, 1, x, y],
+        Ok(Instruction::Lift) => [0, 0, 2, 0, 0],
+        Err(Refusal { number, place }) => [number, place, 0, 0, 0],
     }
 }
 
@@ -171,6 +239,29 @@ fn every_field_of_a_turn_list() {
     }
 }
 
+#[test]
+fn every_field_of_an_instruction() {
+    let mut met = BTreeSet::new();
+    for seed in 0..500 {
+        let seed = Seed(seed);
+        let random = &mut seed.random();
+        let call = any_cutting(random);
+        let spoilt = CUT_IN_ORDER.into_iter().map(|refusal| {
+            let mut call = call.clone();
+            spoil_cutting(random, &mut call, refusal);
+            call
+        });
+        for call in [call.clone()].into_iter().chain(spoilt) {
+            let fields = cut(&call);
+            assert_eq!(fields, cut_fields(call.answer()), "{:?}", call);
+            met.insert((fields[0], fields[2]));
+        }
+    }
+    let instructions = [(0, 0), (0, 1), (0, 2)].into_iter();
+    let refusals = CUT_IN_ORDER.into_iter().map(|refusal| (refusal, 0));
+    assert_eq!(met, instructions.chain(refusals).collect());
+}
+
 const C_PROGRAM: &str = r#"
 #include <stdio.h>
 #include "outline.h"
@@ -201,9 +292,44 @@ int main(void)
     printf("%d %d %d\n", open.refusal == OUTLINE_UNEVEN,
            film.refusal == OUTLINE_FILM_PAST_RANGE,
            list.refusal == OUTLINE_LISTS_DIFFER);
+    static const char *const words[] = {"travel", "cut", "lift"};
+    for (uint32_t k = 0;; k++) {
+        outline_cut flat = outline_flatbed(triangle, 15, polygons, 3, sequences, 3,
+                                           turns, 3, k);
+        outline_cut roll = outline_roll_feeder(triangle, 15, polygons, 3, sequences,
+                                               3, turns, 3, k);
+        if (flat.refusal == OUTLINE_PAST_LAST && roll.refusal == OUTLINE_PAST_LAST)
+            break;
+        printf("%s %g %g %s %g %g\n", words[flat.what], flat.x, flat.y,
+               words[roll.what], roll.x, roll.y);
+    }
+    turns[0] = turns[2];
+    outline_cut other = outline_flatbed(triangle, 15, polygons, 3, sequences, 3,
+                                        turns, 3, 0);
+    sequences[0] = 0, sequences[2] = 1, turns[0] = 0, turns[1] = 2;
+    outline_cut broken = outline_flatbed(triangle, 15, polygons, 3, sequences, 3,
+                                         turns, 3, 0);
+    printf("%d %d\n", other.refusal == OUTLINE_TURNS_DIFFER,
+           broken.refusal == OUTLINE_HEAD_NOT_TAIL);
     return 0;
 }
 "#;
+
+/// What the program prints: the answers, the two turn lists, three refusals; the
+/// instructions of both machines; two refusals more.
+const C_PRINTED: &str = "\
+0 0 1 1 4
+0 0 1
+2 0 1
+2 0 1
+1 1 1
+travel 0.015625 0.078125 travel 0.078125 -0.015625
+cut 0 0 cut 0 0
+cut 0.0625 0.03125 cut 0.03125 -0.0625
+cut 0.015625 0.078125 cut 0.078125 -0.015625
+lift 0 0 lift 0 0
+1 1
+";
 
 /// Compiles a C program with the header and the archive; gives the compiler's
 /// complaint, or nothing where there is no such compiler.
@@ -241,8 +367,7 @@ fn printed_by(name: &str, program: &str) -> String {
 
 #[test]
 fn a_c_program_with_the_header() {
-    let printed = printed_by("header", C_PROGRAM);
-    assert_eq!(printed, "0 0 1 1 4\n0 0 1\n2 0 1\n2 0 1\n1 1 1\n");
+    assert_eq!(printed_by("header", C_PROGRAM), C_PRINTED);
 }
 
 #[test]
@@ -251,7 +376,8 @@ fn the_c_program_of_the_readme() {
     let program = readme.split("```c\n").nth(1).unwrap();
     let program = program.split("```").next().unwrap();
     let printed = printed_by("readme", program);
-    assert!(readme.contains(&format!("./a.out\n    {}", printed)));
+    let shown = format!("./a.out\n{}", printed).replace('\n', "\n    ");
+    assert!(readme.contains(shown.trim_end()), "{}", printed);
 }
 
 /// The names that an archive exports, as the linker sees them; nothing where
@@ -274,6 +400,12 @@ fn exported(tool: &str) -> Option<BTreeSet<String>> {
 fn nothing_else_is_exported() {
     let own = format!("{}-linux-gnu-nm", std::env::consts::ARCH);
     let names = [own.as_str(), "nm"].iter().find_map(|tool| exported(tool));
-    let expected = ["outline_assemble", "outline_turns"].map(str::to_string);
+    let expected = [
+        "outline_assemble",
+        "outline_flatbed",
+        "outline_roll_feeder",
+        "outline_turns",
+    ];
+    let expected = expected.map(str::to_string);
     assert_eq!(names.expect("nm"), BTreeSet::from(expected));
 }
