@@ -43,12 +43,12 @@ RATTLE_HOME=$work/kit rt staticlib desk
 [ -f "$work/engine.bc" ] || { echo "native: the engine's bitcode was not seen" >&2; exit 1; }
 
 # The same code for this machine: its own layout of data, no features of the other one. The two kinds of machine hand over the
-# place of a large answer differently; the engine's function takes it as its first argument, which a line of C makes up for. The
+# place of a large answer differently; the engine's functions take it as their first argument, which a line of C makes up for. The
 # part that lays the turn list is made visible, for the benchmark to time it by itself.
 "$tools/bin/clang" -Wno-everything -x ir "$work/engine.bc" -S -emit-llvm -o "$work/theirs.ll"
 sed -E -e '/^target datalayout/d' -e "s/^target triple.*/target triple = \"$machine-unknown-linux-gnu\"/" \
     -e 's/"(target-cpu|target-features|tune-cpu)"="[^"]*"//g' -e 's/@"assembly::laying::lay_turns"/@lay_turns/' \
-    -e 's/^define internal void @lay_turns\(/define void @lay_turns(/' -e 's/@outline_assemble\(/@outline_assemble_into(/' "$work/theirs.ll" >"$work/ours.ll"
+    -e 's/^define internal void @lay_turns\(/define void @lay_turns(/' -e 's/@outline_(assemble|flatbed|roll_feeder)\(/@outline_\1_into(/' "$work/theirs.ll" >"$work/ours.ll"
 "$tools/bin/clang" --target="$machine-unknown-linux-gnu" -Wno-everything -O3 -fPIC -ffunction-sections -c -x ir "$work/ours.ll" -o "$work/desk.o"
 cat >"$work/answer.c" <<'C'
 #include "outline.h"
@@ -60,6 +60,23 @@ outline_sheet outline_assemble(const int32_t *e, size_t el, uint32_t *p, size_t 
     outline_sheet sheet;
     outline_assemble_into(&sheet, e, el, p, pl, s, sl, t, tl, j, jl, r, rl);
     return sheet;
+}
+
+void outline_flatbed_into(outline_cut *, const int32_t *, size_t, const uint32_t *, size_t, const uint32_t *, size_t, const uint32_t *, size_t, uint32_t);
+void outline_roll_feeder_into(outline_cut *, const int32_t *, size_t, const uint32_t *, size_t, const uint32_t *, size_t, const uint32_t *, size_t, uint32_t);
+
+outline_cut outline_flatbed(const int32_t *e, size_t el, const uint32_t *p, size_t pl, const uint32_t *s, size_t sl, const uint32_t *t, size_t tl, uint32_t k)
+{
+    outline_cut cut;
+    outline_flatbed_into(&cut, e, el, p, pl, s, sl, t, tl, k);
+    return cut;
+}
+
+outline_cut outline_roll_feeder(const int32_t *e, size_t el, const uint32_t *p, size_t pl, const uint32_t *s, size_t sl, const uint32_t *t, size_t tl, uint32_t k)
+{
+    outline_cut cut;
+    outline_roll_feeder_into(&cut, e, el, p, pl, s, sl, t, tl, k);
+    return cut;
 }
 
 typedef struct {

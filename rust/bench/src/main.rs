@@ -1,10 +1,13 @@
 //! How long the engine takes, beside the witness's steps and joining by a hash
 //! map with the same checks: six shapes in four sizes, printed as tables in
 //! Markdown. The best of many runs counts; clearing the lent slices is part of
-//! the engine's call.
+//! the engine's call. And all instructions of the largest sheets, beside plain
+//! Rust with the same checks.
 
+mod cutting;
 mod hashed;
 mod laying;
+mod plain;
 mod rivals;
 mod sheets;
 mod timing;
@@ -12,6 +15,7 @@ mod timing;
 use std::env::consts::{ARCH, OS};
 use std::process::Command;
 
+use cutting::Cutting;
 use rivals::{Desk, Desks, Times};
 use sheets::{Shape, SHAPES, SIZES};
 
@@ -37,6 +41,15 @@ the same list laid by the engine inside `outline_assemble`, where it knows the n
 | sheet | edges | engine | witness | engine / witness | growth | inside the call | inside / engine |
 |---|--:|--:|--:|--:|--:|--:|--:|";
 
+/// What the third table shows.
+const INSTRUCTIONS: &str = "\
+All instructions of a sheet for the flatbed, a call for each (`outline_flatbed`): in
+microseconds a call, and in milliseconds for the whole sheet. Plain Rust does the same
+checks in passes over the lists, with no sort.
+
+| sheet | edges | instructions | engine, a call | plain Rust, a call | engine / plain Rust | engine, the sheet | plain Rust, the sheet |
+|---|--:|--:|--:|--:|--:|--:|--:|";
+
 /// What was measured of a shape in one size: the edges and the peak of the first
 /// sheet, and the times for the edges of all.
 struct Measured {
@@ -60,6 +73,8 @@ fn main() {
     for shape in &shapes {
         shape.iter().for_each(|line| print_turns(line, &shape[0]));
     }
+    println!("\n{}", INSTRUCTIONS);
+    SHAPES.iter().for_each(measure_instructions);
     measure_rows();
 }
 
@@ -118,6 +133,24 @@ fn print_turns(line: &Measured, first: &Measured) {
         times.turns / times.witness_turns,
         line.an_edge(times.turns) / first.an_edge(first.times.turns),
         inside
+    );
+}
+
+/// All instructions of the shape's largest sheet.
+fn measure_instructions(shape: &Shape) {
+    let cutting = Cutting::of(&shape.sheets(SIZES[3]).remove(0));
+    let (engine, plain) = (cutting.time_engine(), cutting.time_plain());
+    let a_call = |time: f64| time / 1e3 / f64::from(cutting.count);
+    println!(
+        "| {} | {} | {} | {:.2} | {:.2} | {:.2} | {:.1} | {:.1} |",
+        shape.name,
+        cutting.edges(),
+        cutting.count,
+        a_call(engine),
+        a_call(plain),
+        engine / plain,
+        engine / 1e6,
+        plain / 1e6
     );
 }
 
