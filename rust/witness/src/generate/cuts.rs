@@ -1,6 +1,6 @@
 //! Calls for an instruction: of sheets with the numbers that the rules give
-//! them, or with edges and outlines in any other order; and such calls spoilt on
-//! purpose, so that a chosen refusal must come.
+//! them, or with edges and outlines in any other order and edges in any films;
+//! and such calls spoilt on purpose, so that a chosen refusal must come.
 
 use crate::call::CutCall;
 use crate::declared;
@@ -26,7 +26,8 @@ pub fn cutting(sheet: Sheet, machine: Machine) -> CutCall {
 }
 
 /// A call for some instruction of some sheet with four edges or more, in half of
-/// the cases with its edges and its outlines in another order.
+/// the cases with its edges and its outlines in another order, at times with its
+/// edges in any films.
 pub fn any_cutting(random: &mut Random) -> CutCall {
     let machine = Machine::ALL[random.below(2)];
     let mut call = cutting(any(random), machine);
@@ -35,6 +36,9 @@ pub fn any_cutting(random: &mut Random) -> CutCall {
     }
     if random.one_in(2) {
         reorder(random, &mut call);
+    }
+    if random.one_in(4) {
+        mix_films(random, &mut call);
     }
     call.k = random.below(last(&call)) as u32;
     call
@@ -63,6 +67,15 @@ fn reorder(random: &mut Random, call: &mut CutCall) {
     call.polygons = numbers;
     call.sequences = sequences;
     call.turns = in_turn(&call.polygons, &call.sequences);
+}
+
+/// Lays each edge in any film: an instruction does not compare them.
+fn mix_films(random: &mut Random, call: &mut CutCall) {
+    let edges = read_edges(&call.edges).into_iter();
+    let mixed: Vec<Edge> = edges
+        .map(|edge| edge.in_film(random.between(0, Edge::MOST_FILM)))
+        .collect();
+    call.edges = write_edges(&mixed);
 }
 
 /// Changes a call of [`any_cutting`], good or spoilt only for refusals that are
