@@ -48,8 +48,8 @@ enum {
  * 1 to 4 are tried first. Then the first edge with any of 5, 16, 6, 7 decides,
  * in that order within an edge. Then 8 is tried over the whole list, then 9,
  * then 10. Likewise 11, 12, 13 and 14 one after the other. For an instruction
- * 1 and 2 are tried first, then the first edge with any of 5, 16, 6 decides; then
- * come 11 to 14, 24, 25 and 18.
+ * 1 and 2 are tried first, then the first edge with any of 5, 16, 6 decides,
+ * then come 11 to 14, 24, 25 and 18.
  */
 enum {
     OUTLINE_ACCEPTED = 0,
@@ -171,11 +171,12 @@ outline_turned outline_turns(const uint32_t *polygons, size_t polygons_length,
                              uint32_t *turns, size_t turns_length);
 
 /*
- * The k-th instruction, from 0, for the outlines of a sheet that is numbered and
- * put in turn, by outline_assemble or elsewhere. For each outline in the order of
- * the polygon numbers: travel to the tail of its edge 0, cut to the head of each
- * of its edges in sequence order, the last leading back to the start, lift. That
- * is n + 2 instructions for n edges; after the last of all comes refusal 18.
+ * The k-th instruction, from 0, for the outlines of a sheet that is numbered
+ * and put in turn, by outline_assemble or elsewhere. For each outline in the
+ * order of the polygon numbers: travel to the tail of its edge 0, cut to the
+ * head of each of its edges in sequence order, the last leading back to the
+ * start, lift. That is n + 2 instructions for n edges; after the last of all
+ * comes refusal 18.
  *
  *   edges      five numbers an edge, in any order.
  *   polygons,  one number an edge: its outline, from 1, and its place round it,
