@@ -19,7 +19,7 @@ use Rattle.desk.specs.declared.Sheet.{Sheet}
 use Rattle.desk.specs.declared.Turned.{Turned}
 use Rattle.desk.specs.Exported.{sheetFrom, turnedFrom}
 
-refused-not-zero : (r : TurnRefusal) → turnNumberOf r ≡ 0 → ⊥
+pub refused-not-zero : (r : TurnRefusal) → turnNumberOf r ≡ 0 → ⊥
 refused-not-zero TurnLengths q = omega arith
 refused-not-zero (NoPolygon e) q = omega arith
 refused-not-zero (PairRepeated e) q = omega arith
@@ -41,7 +41,7 @@ by-numbers-exactly {a = a} exactly told n = (
 )
 
 -- the same of a sheet
-sheet-refused : (r : Refusal) → numberOf r ≡ 0 → ⊥
+pub sheet-refused : (r : Refusal) → numberOf r ≡ 0 → ⊥
 sheet-refused NotWhole q = omega arith
 sheet-refused TooMany q = omega arith
 sheet-refused ListsDiffer q = omega arith

@@ -2,3 +2,5 @@
 pub mod Accepting
 pub mod OneOutcome
 pub mod AcceptedSheet
+pub mod HeadsMeetTails
+pub mod Telling
