@@ -19,3 +19,5 @@ pub mod TurnsTried
 pub mod Closing
 pub mod Instructing
 pub mod OnlyPastLast
+pub mod OneAnswer
+pub mod WorkedInstructions
