@@ -1,19 +1,18 @@
 -- The outlines that are cut: their points are in range, and where no head misses the next tail each one leads back to its start. Along an outline the
 -- edges' sequence numbers grow by one, so all of them stand their number behind its edge 0; behind the last an edge 0 or nothing stands, and its head is
 -- the tail of the edge that stands its number before.
-use mathlib.Core.Path.{_≡_, refl, sym, ap, _∙_}
-use mathlib.Core.Bool.{Bool, true, false}
+use mathlib.Core.Path.{_≡_, refl}
+use mathlib.Core.Bool.{true, false}
 use mathlib.Core.List.{List, [], _∷_}
 use mathlib.Core.Logic.{⊎-elim}
-use Prim.Native.Nat.{ℕ, zero, suc, _+_, _-_, _≤_, _<_}
+use Prim.Native.Nat.{ℕ, zero, suc, _+_, _-_, _<_}
 use native.Mathlib.Omega.{arith}
-use borrow.Author.Tests.{eq-eqb, ne-eqb, eqb-true, eqb-false, not-false}
+use borrow.Author.Tests.{eqb-true, eqb-false, not-false}
 use lib.Dec.{eqb}
 use lib.IntN.{ℤ}
 use lib.ListN.{length, getD, drop}
 use lib.Seq.{drop-cons, drop-length}
-use Rattle.laws.proofs.Deciding.{lt-or-le, true-or-false}
-use Rattle.sheet.specs.declared.Point.{Point}
+use Rattle.laws.proofs.Deciding.{true-or-false}
 use Rattle.sheet.specs.Points.{inRange}
 use Rattle.sheet.specs.Edges.{edgeAt}
 use Rattle.sheet.proofs.Ranks.{same-point}
@@ -22,7 +21,7 @@ use Rattle.cutter.specs.Joined.{Drawable}
 use Rattle.cutter.proofs.RightTurns.{run-onward}
 use Rattle.cutter.proofs.Drawings.{AllInRange, Drawn, Ends, AllClosed}
 use Rattle.cutter.proofs.Rounds.{next-back, next-back-last}
-use Rattle.cutter.proofs.Standing.{edge-there, standing}
+use Rattle.cutter.proofs.Standing.{edge-there}
 
 -- along a list of edges whose ends are in range
 module _ (list : List ℤ) (sequences : List ℕ) (n : ℕ) (tails : (e : ℕ) → e < n → inRange (edgeAt list e .tail) ≡ true) (heads : (e : ℕ) → e < n → inRange (edgeAt list e .head) ≡ true) where
@@ -48,7 +47,7 @@ module _ {list : List ℤ} {polygons sequences turns : List ℕ} (D : Drawable l
     turn i = getD turns i 0
 
     -- the head of the edge at i is the tail of the next
-    meets : (i next : ℕ) → i < length turns → next ≡ nextAt sequences turns i → edgeAt list (turn i) .head ≡ edgeAt list (turn next) .tail
+    pub meets : (i next : ℕ) → i < length turns → next ≡ nextAt sequences turns i → edgeAt list (turn i) .head ≡ edgeAt list (turn next) .tail
     unfolding headNotTail
     meets i next l q = same-point _ _ (not-false _ (rw (← q) at (joined i l)))
 

@@ -1,18 +1,19 @@
 -- What the instructions make of the head. From the travel to the lift there are cuts only, one for each head of the outline. Each cut leaves the blade down
 -- at its place, whatever was before; so a closed outline's last cut has it down at the start, and the lift raises it there.
-use mathlib.Core.Path.{_≡_, ap}
-use mathlib.Core.Bool.{true, false}
+use mathlib.Core.Path.{_≡_, refl, ap, _∙_}
+use mathlib.Core.Bool.{true}
 use mathlib.Core.List.{List, [], _∷_, _++_}
 use Prim.Native.Nat.{_+_}
 use native.Mathlib.Omega.{arith}
+use lib.Ieee.{Float}
 use lib.ListN.{length}
 use Rattle.sheet.specs.declared.Point.{Point}
 use Rattle.cutter.specs.declared.machines.Place.{Place}
 use Rattle.cutter.specs.declared.blade.Head.{Head}
 use Rattle.cutter.specs.declared.blade.Instruction.{Instruction}
-use Rattle.cutter.specs.declared.blade.Instruction.the-variants.{Lift}
+use Rattle.cutter.specs.declared.blade.Instruction.the-variants.{Cut, Lift}
 use Rattle.cutter.specs.Blade.{travelTo, cutTo, advanced, ran, raisedAt}
-use Rattle.cutter.specs.Programme.{Outline, cuts, programme, Orderly}
+use Rattle.cutter.specs.Programme.{Outline, cuts, programme, resting, travelled, cutting, Orderly}
 use Rattle.cutter.proofs.Drawings.{Ends, ClosedBy, AllClosed}
 
 -- the one of them that stands between others
@@ -20,16 +21,26 @@ closed-among : (before after : List Outline) (o : Outline) → AllClosed (before
 closed-among [] after o h = h .0
 closed-among (b ∷ before) after o h = closed-among before after o (h .1)
 
+-- a cut leaves the blade down, whatever was run before
+pub cut-down : (done : List Instruction) (x y : Float) (h : Head) → ran h (done ++ (Cut x y ∷ [])) .down ≡ true
+unfolding ran
+cut-down [] x y h = refl
+cut-down (i ∷ done) x y h = cut-down done x y (advanced h i)
+
 module _ (place : Point → Place) where
-  cuts-orderly : (ps : List Point) (rest : List Instruction) → Orderly false rest → Orderly true (cuts place ps (Lift ∷ rest))
+  cuts-orderly : (ps : List Point) (rest : List Instruction) → Orderly resting rest → Orderly cutting (cuts place ps (Lift ∷ rest))
   unfolding cuts
   cuts-orderly [] rest h = h
   cuts-orderly (p ∷ ps) rest h = cuts-orderly ps rest h
 
-  pub orderly : (os : List Outline) → Orderly false (programme place os)
+  first-orderly : (q : Point) (ps : List Point) (rest : List Instruction) → ClosedBy q ps → Orderly resting rest → Orderly travelled (cuts place ps (Lift ∷ rest))
+  unfolding cuts
+  first-orderly q (p ∷ ps) rest c h = cuts-orderly ps rest h
+
+  pub orderly : (os : List Outline) → AllClosed os → Orderly resting (programme place os)
   unfolding programme
-  orderly [] = tt
-  orderly (o ∷ os) = cuts-orderly (o .heads) (programme place os) (orderly os)
+  orderly [] c = tt
+  orderly (o ∷ os) c = first-orderly (o .start) (o .heads) (programme place os) (c .0) (orderly os (c .1))
 
   -- ---- how many
   cuts-length : (ps : List Point) (rest : List Instruction) → length (cuts place ps rest) ≡ length ps + length rest
@@ -40,6 +51,21 @@ module _ (place : Point → Place) where
   pub outline-length : (o : Outline) → length (programme place (o ∷ [])) ≡ length (o .heads) + 2
   unfolding programme
   outline-length o = let h = cuts-length (o .heads) (Lift ∷ []) in omega (arith, h)
+
+  -- ---- outline after outline
+  cuts-apart : (ps : List Point) (rest more : List Instruction) → cuts place ps (rest ++ more) ≡ cuts place ps rest ++ more
+  unfolding cuts
+  cuts-apart [] rest more = refl
+  cuts-apart (p ∷ ps) rest more = ap (λ (is : List Instruction). cutTo (place p) ∷ is) (cuts-apart ps rest more)
+
+  programmes-apart : (before after : List Outline) → programme place (before ++ after) ≡ programme place before ++ programme place after
+  unfolding programme
+  programmes-apart [] after = refl
+  programmes-apart (o ∷ before) after =
+      rw (programmes-apart before after) (ap (λ (is : List Instruction). travelTo (place (o .start)) ∷ is) (cuts-apart (o .heads) (Lift ∷ programme place before) (programme place after)))
+
+  pub apart : (os before after : List Outline) → os ≡ before ++ after → programme place os ≡ programme place before ++ programme place after
+  apart os before after e = ap (programme place) e ∙ programmes-apart before after
 
   -- ---- where the head stands
   -- after cuts, wherever it stood, with the last one known

@@ -1,9 +1,9 @@
 -- What is promised of an instruction, by the way that led to the answer: refused for the edges, for the numbers or the turn list, for a head that is not
 -- the next tail, or answered from lists that outlines can be cut from.
-use mathlib.Core.Path.{_≡_, refl, sym, ap, _∙_}
+use mathlib.Core.Path.{_≡_, refl, sym, _∙_}
 use mathlib.Core.Bool.{false}
 use mathlib.Core.List.{List}
-use Prim.Native.Nat.{ℕ, _*_, _≤_, _<_}
+use Prim.Native.Nat.{ℕ, _≤_, _<_}
 use native.Mathlib.Omega.{arith}
 use lib.IntN.{ℤ}
 use lib.ListN.{length, getD}
@@ -12,7 +12,6 @@ use Rattle.laws.proofs.First.{first-least}
 use Rattle.sheet.specs.declared.Refusal.{Refusal}
 use Rattle.sheet.specs.declared.Check.the-variants as check
 use Rattle.sheet.specs.Edges.{edgesIn}
-use Rattle.sheet.specs.TurnList.{numberLists}
 use Rattle.checks.specs.Stages.{andThen, listChecked, edgesAloneChecked}
 use Rattle.checks.proofs.Answering.{alone-fit}
 use Rattle.checks.proofs.EdgeFaults.{tail-in, head-in}
@@ -26,13 +25,15 @@ use Rattle.cutter.specs.declared.turning.Turning.the-variants as turning
 use Rattle.cutter.specs.Places.{placeFor}
 use Rattle.cutter.specs.Programme.{programme}
 use Rattle.cutter.specs.Outlines.{outlinesOf, headNotTail}
-use Rattle.cutter.specs.Instructed.{kth, afterEdges, joinedStep, turnedStep, instructed, Instructs}
+use Rattle.cutter.specs.Instructed.{kth, joinedStep, instructed, Instructs}
 use Rattle.cutter.specs.Turning.{afterTurning, TurnsChecked}
 use Rattle.cutter.specs.Joined.{Drawable}
 use Rattle.cutter.proofs.SomeTurnList.{someTurnList, some-turn-list}
 use Rattle.cutter.proofs.TurnsTried.{refuse-here, refuse-not}
 use Rattle.cutter.proofs.Standing.{as-long}
 use Rattle.cutter.proofs.Closing.{drawn, closed}
+use Rattle.cutter.proofs.StrokesBack.{strokes-back}
+use Rattle.cutter.proofs.Places.{place-exact}
 use Rattle.cutter.proofs.Cuttable.{cuttable}
 
 refused-not-next : {A : Type 0} (r : CutRefusal) {s : Step} → s ≡ Refused r → (i : _) → s ≡ Next i → A
@@ -64,7 +65,9 @@ module _ (m : Machine) (list : List ℤ) (polygons sequences turns : List ℕ) (
     right = someTurnList polygons sequences;
     given = some-turn-list polygons sequences (length turns);
     answer = rw q refl;
+    exact = place-exact m;
     cuttable = refused-not-next (Edges r) refl;
+    edges-back = refused-not-next (Edges r) refl;
   }
 
   -- once the edges are passed
@@ -78,7 +81,9 @@ module _ (m : Machine) (list : List ℤ) (polygons sequences turns : List ℕ) (
       right = T .right;
       given = T .given;
       answer = rw q at answered;
+      exact = place-exact m;
       cuttable = refused-not-next r refl;
+      edges-back = refused-not-next r refl;
     }
 
     -- and the turn list too
@@ -93,13 +98,18 @@ module _ (m : Machine) (list : List ℤ) (polygons sequences turns : List ℕ) (
       joined-answer = rw right at answered
 
       module _ (broken : ℕ) (found : broken ≡ first (headNotTail list sequences turns) (length turns)) where
+        joined : edgesIn list ≤ broken → (i : ℕ) → i < length turns → headNotTail list sequences turns i ≡ false
+        joined l i h = first-least (headNotTail list sequences turns) (length turns) i (omega (arith, h, l, found, long))
+
         pub on-broken : broken < edgesIn list → Instructs m list polygons sequences turns k (Refused (HeadNotTail (getD turns broken 0)))
         unfolding joinedStep
         on-broken l = record {
           right = T .right;
           given = T .given;
           answer = refuse-here _ _ _ found (λ i. HeadNotTail (getD turns i 0)) _ (omega (arith, l, long)) ∙ joined-answer;
+          exact = place-exact m;
           cuttable = refused-not-next _ refl;
+          edges-back = refused-not-next _ refl;
         }
 
         pub on-joined : edgesIn list ≤ broken → {r : Step} → r ≡ kth (programme (placeFor m) (outlinesOf list sequences turns)) k → Instructs m list polygons sequences turns k r
@@ -108,5 +118,7 @@ module _ (m : Machine) (list : List ℤ) (polygons sequences turns : List ℕ) (
           right = T .right;
           given = T .given;
           answer = q ∙ refuse-not _ _ _ found (λ i. HeadNotTail (getD turns i 0)) _ (omega (arith, l, long)) ∙ joined-answer;
-          cuttable = λ i e. cuttable m _ (drawn D) (closed D (λ i h. first-least (headNotTail list sequences turns) (length turns) i (omega (arith, h, l, found, long))));
+          exact = place-exact m;
+          cuttable = λ i e. cuttable m _ (drawn D) (closed D (joined l));
+          edges-back = λ i e. strokes-back m D (joined l);
         }

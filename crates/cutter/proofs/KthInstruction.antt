@@ -5,10 +5,10 @@ use mathlib.Core.Path.{_≡_, refl, sym, ap, _∙_}
 use mathlib.Core.Bool.{true, false}
 use mathlib.Core.List.{List, [], _∷_}
 use mathlib.Core.Logic.{⊎-elim}
-use Prim.Native.Nat.{ℕ, zero, suc, _+_, _-_, _*_, _≤_, _<_}
+use Prim.Native.Nat.{ℕ, zero, suc, _+_, _-_, _≤_, _<_}
 use native.Mathlib.Omega.{arith}
 use borrow.Author.Tests.{eq-eqb, ne-eqb, ltb-true, ltb-false}
-use lib.Dec.{eqb, ltb}
+use lib.Dec.{ltb}
 use lib.IntN.{ℤ}
 use lib.ListN.{length, getD, drop}
 use lib.Seq.{drop-cons, drop-length}
@@ -32,34 +32,38 @@ use Rattle.cutter.specs.Position.{upToCut, pastLast, beforeEnd}
 use Rattle.cutter.proofs.RightTurns.{run-begins, run-onward}
 
 module _ (m : Machine) (list : List ℤ) (sequences : List ℕ) where
-  abbrev all : List ℕ → List Instruction
+  abbrev pub all : List ℕ → List Instruction
   all ts = programme (placeFor m) (outlinesOf list sequences ts)
 
   -- what follows the cut of an edge, behind which a turn list goes on with ts
-  abbrev behind : List ℕ → List Instruction
+  abbrev pub behind : List ℕ → List Instruction
   behind ts = cuts (placeFor m) (headsOn list sequences ts) (Lift ∷ all ts)
 
-  abbrev travelOf : ℕ → Instruction
+  abbrev pub travelOf : ℕ → Instruction
   travelOf e = travelTo (placeFor m (edgeAt list e .tail))
 
-  abbrev cutOf : ℕ → Instruction
+  abbrev pub cutOf : ℕ → Instruction
   cutOf e = cutTo (placeFor m (edgeAt list e .head))
 
-  begun : (e : ℕ) (ts : List ℕ) → getD sequences e 0 ≡ 0 → all (e ∷ ts) ≡ travelOf e ∷ (cutOf e ∷ behind ts)
+  pub begun : (e : ℕ) (ts : List ℕ) → getD sequences e 0 ≡ 0 → all (e ∷ ts) ≡ travelOf e ∷ (cutOf e ∷ behind ts)
   unfolding programme cuts outlinesOf
   begun e ts z = rw (eq-eqb (getD sequences e 0) 0 z) refl
 
-  behind-zero : (e : ℕ) (ts : List ℕ) → getD sequences e 0 ≡ 0 → behind (e ∷ ts) ≡ Lift ∷ (travelOf e ∷ (cutOf e ∷ behind ts))
+  pub behind-zero : (e : ℕ) (ts : List ℕ) → getD sequences e 0 ≡ 0 → behind (e ∷ ts) ≡ Lift ∷ (travelOf e ∷ (cutOf e ∷ behind ts))
   unfolding cuts headsOn
   behind-zero e ts z = rw (eq-eqb (getD sequences e 0) 0 z) (ap (λ (is : List Instruction). Lift ∷ is) (begun e ts z))
 
-  behind-on : (e : ℕ) (ts : List ℕ) → (getD sequences e 0 ≡ 0 → ⊥) → behind (e ∷ ts) ≡ cutOf e ∷ behind ts
+  pub behind-on : (e : ℕ) (ts : List ℕ) → (getD sequences e 0 ≡ 0 → ⊥) → behind (e ∷ ts) ≡ cutOf e ∷ behind ts
   unfolding cuts headsOn outlinesOf
   behind-on e ts z = rw (ne-eqb (getD sequences e 0) 0 z) refl
 
-  behind-none : behind [] ≡ Lift ∷ []
+  pub behind-none : behind [] ≡ Lift ∷ []
   unfolding cuts headsOn outlinesOf programme
   behind-none = refl
+
+  pub none-all : all [] ≡ []
+  unfolding programme outlinesOf
+  none-all = refl
 
 -- an empty sheet has no instruction
 none-at-all : (m : Machine) (list : List ℤ) (sequences turns : List ℕ) (k : ℕ) → length turns ≡ 0 → Refused PastLast ≡ kth (programme (placeFor m) (outlinesOf list sequences turns)) k

@@ -17,6 +17,7 @@ pub mod Running
 pub mod SomeTurnList
 pub mod TurnsTried
 pub mod Closing
+pub mod StrokesBack
 pub mod Instructing
 pub mod OnlyPastLast
 pub mod OneAnswer

@@ -1,11 +1,11 @@
--- A place is exact: each of its numbers is a whole number of 64ths, which has a float of its own. So the point is read back from its place on either
--- machine, and no number is minus zero, which is no whole number's float. Some values are worked to the bit.
-use mathlib.Core.Path.{_≡_, refl, sym}
-use mathlib.Core.Bool.{true, false≢true}
-use Prim.Native.Nat.{ℕ, suc, _*_, _≤_}
+-- A place is exact: each of its numbers is a whole number of 64ths, which has a float of its own, and a zero is plus zero. So the point is read back from
+-- its place on either machine. Some values are worked to the bit.
+use mathlib.Core.Path.{_≡_, refl}
+use mathlib.Core.Bool.{true}
+use Prim.Native.Nat.{ℕ, _≤_}
 use native.Mathlib.Omega.{arith}
 use lib.IntN.{ℤ, pos, negsuc, negℤ, natAbs, negℤ-negℤ}
-use lib.Ieee.{Float, fin, binary32, round, ofBits, toBits, div}
+use lib.Ieee.{binary32, round, ofBits, toBits, div}
 use Rattle.sheet.specs.declared.Point.{Point}
 use Rattle.sheet.specs.Points.{inRange}
 use Rattle.singles.specs.Singles.{Exactly, single, read}
@@ -13,7 +13,7 @@ use Rattle.singles.proofs.SixtyFourths.{sixty-fourth-exact, over-64}
 use Rattle.singles.proofs.ReadingBack.{read-exactly}
 use Rattle.cutter.specs.declared.machines.Machine.{Machine}
 use Rattle.cutter.specs.declared.machines.Machine.the-variants.{Flatbed, RollFeeder}
-use Rattle.cutter.specs.Places.{millimetresOf, placeFor, pointAt}
+use Rattle.cutter.specs.Places.{millimetresOf, placeFor, pointAt, ExactPlace}
 use Rattle.cutter.proofs.Limits.{x-limit, y-limit, negated-limit}
 
 module _ (v : ℤ) (h : natAbs v ≤ 1000000) where
@@ -22,7 +22,7 @@ module _ (v : ℤ) (h : natAbs v ≤ 1000000) where
   unfolding ofBits millimetresOf
   by-quotient = over-64 v (omega (arith, h))
 
-  pub exact : Exactly (millimetresOf v) v 64
+  exact : Exactly (millimetresOf v) v 64
   unfolding millimetresOf
   exact = sixty-fourth-exact v (omega (arith, h))
 
@@ -37,21 +37,10 @@ unfolding placeFor pointAt
 point-back Flatbed p t = λ i. record { x = units-back (p .x) (x-limit p t) i; y = units-back (p .y) (y-limit p t) i }
 point-back RollFeeder p t = λ i. record { x = negated-back (p .x) (x-limit p t) i; y = units-back (p .y) (y-limit p t) i }
 
--- ---- minus zero
-abbrev minusZero : Float
-minusZero = fin true 0 (pos 0)
-
-no-number : (z : ℤ) → Exactly minusZero z 64 → ⊥
-no-number (pos n) v = false≢true (sym (v .0))
-no-number (negsuc n) v = let e : 0 * 1 * 64 ≡ suc n * 1 = v .1 in omega (arith, e)
-
-not-minus-zero : (v : ℤ) → natAbs v ≤ 1000000 → millimetresOf v ≡ minusZero → ⊥
-not-minus-zero v h e = no-number v (rw e at (exact v h))
-
-pub never-minus-zero : (m : Machine) (p : Point) → inRange p ≡ true → (placeFor m p .first ≡ minusZero → ⊥) × (placeFor m p .second ≡ minusZero → ⊥)
+pub place-exact : (m : Machine) (p : Point) → inRange p ≡ true → ExactPlace m p (placeFor m p)
 unfolding placeFor
-never-minus-zero Flatbed p t = (not-minus-zero (p .x) (x-limit p t), not-minus-zero (p .y) (y-limit p t))
-never-minus-zero RollFeeder p t = (not-minus-zero (p .y) (y-limit p t), not-minus-zero (negℤ (p .x)) (negated-limit (p .x) (x-limit p t)))
+place-exact Flatbed p t = (exact (p .x) (x-limit p t), exact (p .y) (y-limit p t))
+place-exact RollFeeder p t = (exact (p .y) (y-limit p t), exact (negℤ (p .x)) (negated-limit (p .x) (x-limit p t)))
 
 -- ---- worked values
 bits : ℤ → ℕ

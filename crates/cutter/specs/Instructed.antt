@@ -2,7 +2,7 @@
 use Prim.Native.Nat.{ℕ, zero, suc}
 use mathlib.Core.Path.{_≡_}
 use mathlib.Core.Bool.{Bool, true, false, not, _&&_}
-use mathlib.Core.List.{List, [], _∷_}
+use mathlib.Core.List.{List, [], _∷_, map}
 use lib.Dec.{eqb, ltb}
 use lib.IntN.{ℤ}
 use lib.ListN.{length, getD}
@@ -12,6 +12,8 @@ use Rattle.sheet.specs.declared.Check.the-variants as check
 use Rattle.sheet.specs.declared.TurnAnswer.{TurnAnswer}
 use Rattle.sheet.specs.declared.TurnAnswer.the-variants as turn
 use Rattle.sheet.specs.declared.TurnRefusal.the-variants.{TurnLengths}
+use Rattle.sheet.specs.declared.Point.{Point}
+use Rattle.sheet.specs.Points.{inRange}
 use Rattle.sheet.specs.Edges.{edgesIn}
 use Rattle.sheet.specs.Answers.{numberOf, placeOf}
 use Rattle.sheet.specs.TurnList.{turnNumberOf, turnPlaceOf, numberLists, turned, TurnList}
@@ -22,9 +24,9 @@ use Rattle.cutter.specs.declared.CutRefusal.{CutRefusal}
 use Rattle.cutter.specs.declared.CutRefusal.the-variants.{Edges, Numbers, TurnsDiffer, HeadNotTail, PastLast}
 use Rattle.cutter.specs.declared.Step.{Step}
 use Rattle.cutter.specs.declared.Step.the-variants.{Next, Refused}
-use Rattle.cutter.specs.Places.{placeFor, pointAt}
-use Rattle.cutter.specs.Programme.{programme, Cuttable}
-use Rattle.cutter.specs.Outlines.{outlinesOf, headNotTail}
+use Rattle.cutter.specs.Places.{placeFor, pointAt, ExactPlace}
+use Rattle.cutter.specs.Programme.{programme, strokesRead, Cuttable}
+use Rattle.cutter.specs.Outlines.{outlinesOf, strokeOf, headNotTail}
 
 abbrev pub cutNumberOf : CutRefusal → ℕ
 cutNumberOf (Edges r) = numberOf r
@@ -96,5 +98,8 @@ pub record Instructs (m : Machine) (list : List ℤ) (polygons sequences turns :
   pub right : List ℕ
   pub given : (n : ℕ) → turned polygons sequences (length turns) ≡ turn.Accepted n → TurnList (numberLists polygons sequences) right
   pub answer : r ≡ instructed m list polygons sequences turns right k
-  -- and where an instruction is given, what all of them together are good for
+  -- places are exact
+  pub exact : (p : Point) → inRange p ≡ true → ExactPlace m p (placeFor m p)
+  -- and where an instruction is given, what all of them together are good for; read back, they are the edges in turn, each with its tail and its head
   pub cuttable : (i : Instruction) → r ≡ Next i → Cuttable (placeFor m) (pointAt m) (outlinesOf list sequences turns)
+  pub edges-back : (i : Instruction) → r ≡ Next i → (here : Point) → strokesRead (pointAt m) here (programme (placeFor m) (outlinesOf list sequences turns)) ≡ map (strokeOf list) turns

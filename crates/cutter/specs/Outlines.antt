@@ -8,20 +8,24 @@ use lib.ListN.{length, getD}
 use Rattle.sheet.specs.declared.Point.{Point}
 use Rattle.sheet.specs.Points.{isSame}
 use Rattle.sheet.specs.Edges.{edgeAt}
-use Rattle.cutter.specs.Programme.{Outline}
+use Rattle.cutter.specs.Programme.{Outline, Stroke}
 
 -- along a turn list, the heads of the edges before the next edge 0
 unfoldable pub headsOn : List ℤ → List ℕ → List ℕ → List Point
 headsOn list sequences [] = []
 headsOn list sequences (e ∷ es) = cond (eqb (getD sequences e 0) 0) [] (edgeAt list e .head ∷ headsOn list sequences es)
 
--- along a turn list, an outline begins with each edge 0
+-- along a turn list, an outline begins with each edge 0; a turn list that passes 24 begins with one
 unfoldable pub outlinesOf : List ℤ → List ℕ → List ℕ → List Outline
 outlinesOf list sequences [] = []
 outlinesOf list sequences (e ∷ es) =
     cond (eqb (getD sequences e 0) 0)
     (record { start = edgeAt list e .tail; heads = edgeAt list e .head ∷ headsOn list sequences es } ∷ outlinesOf list sequences es)
     (outlinesOf list sequences es)
+
+-- an edge's ends, as the blade cuts it
+abbrev pub strokeOf : List ℤ → ℕ → Stroke
+strokeOf list e = record { tail = edgeAt list e .tail; head = edgeAt list e .head }
 
 -- Where the next edge of its outline stands, of the edge at position i of a turn list: behind it, unless an edge 0 or nothing stands there. Then it is its
 -- outline's edge 0, which stands as many positions before it as its sequence number says.

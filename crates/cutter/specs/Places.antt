@@ -1,7 +1,7 @@
 -- A place of each machine (02, M-102): two single-precision numbers in millimetres, a unit of the list being 1/64 mm; and the point read back from it.
 use lib.IntN.{ℤ, negℤ}
 use lib.Ieee.{Float}
-use Rattle.singles.specs.Singles.{single, read}
+use Rattle.singles.specs.Singles.{Exactly, single, read}
 use Rattle.sheet.specs.declared.Point.{Point}
 use Rattle.cutter.specs.declared.machines.Machine.{Machine}
 use Rattle.cutter.specs.declared.machines.Machine.the-variants.{Flatbed, RollFeeder}
@@ -19,3 +19,8 @@ placeFor RollFeeder p = record { first = millimetresOf (p .y); second = millimet
 unfoldable pub pointAt : Machine → Place → Point
 pointAt Flatbed q = record { x = read 64 (q .first); y = read 64 (q .second) }
 pointAt RollFeeder q = record { x = negℤ (read 64 (q .second)); y = read 64 (q .first) }
+
+-- a place is its point's exactly: nothing is lost, and a zero is plus zero
+abbrev pub ExactPlace : Machine → Point → Place → Type 0
+ExactPlace Flatbed p q = Exactly (q .first) (p .x) 64 × Exactly (q .second) (p .y) 64
+ExactPlace RollFeeder p q = Exactly (q .first) (p .y) 64 × Exactly (q .second) (negℤ (p .x)) 64

@@ -4,7 +4,6 @@ ghost use mathlib.Core.Path.{_≡_};
 ghost use mathlib.Core.Bool.{true};
 ghost use Prim.Native.Nat.{_≤_};
 ghost use lib.IntN.{natAbs, negℤ};
-ghost use Rattle.singles.specs.Singles.{Exactly};
 ghost use Rattle.sheet.specs.Points.{inRange};
 ghost use Rattle.cutter.specs.Places.{millimetresOf, placeFor};
 
@@ -22,8 +21,7 @@ pub struct Place {
 // v units in millimetres.
 fn millimetres(v: i32) -> f32
     requires { ⌜ natAbs v ≤ 1000000 ⌝ }
-    ensures nearest { λ r. ⌜ r ≡ millimetresOf v ⌝ }
-    ensures exact { λ r. ⌜ Exactly r v 64 ⌝ }
+    ensures { λ r. ⌜ r ≡ millimetresOf v ⌝ }
 {
     singles::whole(v) / 64.0
 }
@@ -31,8 +29,7 @@ fn millimetres(v: i32) -> f32
 // -v units in millimetres. The whole number is negated, so that zero stays plus zero.
 fn negated(v: i32) -> f32
     requires { ⌜ natAbs v ≤ 1000000 ⌝ }
-    ensures nearest { λ r. ⌜ r ≡ millimetresOf (negℤ v) ⌝ }
-    ensures exact { λ r. ⌜ Exactly r (negℤ v) 64 ⌝ }
+    ensures { λ r. ⌜ r ≡ millimetresOf (negℤ v) ⌝ }
 {
     millimetres(0 - v)
 }

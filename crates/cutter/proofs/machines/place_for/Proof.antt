@@ -44,8 +44,8 @@ unfolding placeFor
 returns c =
     let told = c .before .before .before .before in
     rw (c .before .before .enum-told .given .1) (λ i. record {
-      first = (c .before .millimetres .ensures .0 ∙ ap millimetresOf (x-back told)) i;
-      second = (c .millimetres2 .ensures .0 ∙ ap millimetresOf (y-back told)) i;
+      first = (c .before .millimetres .ensures ∙ ap millimetresOf (x-back told)) i;
+      second = (c .millimetres2 .ensures ∙ ap millimetresOf (y-back told)) i;
     })
 
 -- the roll feeder
@@ -54,8 +54,8 @@ unfolding placeFor
 returns-2 c =
     let told = c .before .before .before .before in
     rw (c .before .before .enum-told2 .given .1) (λ i. record {
-      first = (c .before .millimetres3 .ensures .0 ∙ ap millimetresOf (y-back told)) i;
-      second = (c .negated .ensures .0 ∙ ap (λ (z : ℤ). millimetresOf (negℤ z)) (x-back told)) i;
+      first = (c .before .millimetres3 .ensures ∙ ap millimetresOf (y-back told)) i;
+      second = (c .negated .ensures ∙ ap (λ (z : ℤ). millimetresOf (negℤ z)) (x-back told)) i;
     })
 
 pub place-for-spec : {M : Type 1} → statement M
