@@ -1,10 +1,11 @@
 -- A pass along a turn list: what it carries from position to position, and that the numbers run as far as each pair comes right behind the carried one.
--- Before the first position stand polygon 0 and a sequence number that no other comes behind, so only polygon 1, sequence 0 can come next.
-use mathlib.Core.Path.{_≡_, refl, _∙_, subst}
+-- Before the first position stand polygon 0 and a sequence number that no other comes behind, so only polygon 1, sequence 0 can come next. Along a list
+-- that runs every pair comes right behind the carried one.
+use mathlib.Core.Path.{_≡_, refl, sym, _∙_, subst}
 use mathlib.Core.Bool.{true}
 use mathlib.Core.List.{List}
 use mathlib.Core.Logic.{_⊎_, inl, inr, ⊎-elim}
-use Prim.Native.Nat.{ℕ, suc, _+_, _<_}
+use Prim.Native.Nat.{ℕ, zero, suc, _+_, _<_}
 use native.Mathlib.Omega.{arith}
 use lib.Dec.{eqb}
 use lib.ListN.{length, getD}
@@ -25,6 +26,12 @@ came-next p s q t h = ⊎-elim
     (λ z. inr (eqb-true _ _ (rw (eq-eqb t 0 z) at h), z))
     (λ z. let w = both-true (eqb q p) _ (rw (ne-eqb t 0 z) at h) in inl (eqb-true _ _ (w .0), eqb-true _ _ (w .1)))
     (eq-or-ne t 0)
+
+comes-next : (p s q t : ℕ) → ((q ≡ p) × (t ≡ suc s)) ⊎ ((q ≡ suc p) × (t ≡ 0)) → comesNext p s q t ≡ true
+unfolding comesNext
+comes-next p s q t = ⊎-elim
+    (λ w. rw (ne-eqb t 0 (λ z. absurd (omega (arith, z, w .1))), eq-eqb q p (w .0)) (eq-eqb t (suc s) (w .1)))
+    (λ w. rw (eq-eqb t 0 (w .1)) (eq-eqb q (suc p) (w .0)))
 
 module _ (v : NumberLists) (turns : List ℕ) where
   pub carried-first : Carried v turns 0 0 4294967295
@@ -69,3 +76,15 @@ module _ (v : NumberLists) (turns : List ℕ) where
 
   pub run-all : {i : ℕ} → RunsTo v turns i → i ≡ v .edges → length turns ≡ v .edges → Runs v turns
   run-all R e size = record { size = size; to-end = subst (RunsTo v turns) e R }
+
+  pub next-along : Runs v turns → (i : ℕ) {p s : ℕ} → Carried v turns i p s → i < v .edges → comesNext p s (v .polygon (getD turns i 0)) (v .sequence (getD turns i 0)) ≡ true
+  next-along R zero {p} {s} C l =
+      let c = C .at-first refl in
+      let b = R .to-end .begins l in
+      comes-next p s _ _ (inr (omega (arith, b .0, c .0), b .1))
+  next-along R (suc j) {p} {s} C l =
+      let c = C .later j refl in
+      comes-next p s _ _ (⊎-elim
+      (λ w. inl (w .0 ∙ sym (c .0), omega (arith, w .1, c .1)))
+      (λ w. inr (omega (arith, w .0, c .0), w .1))
+      (R .to-end .onward j l))

@@ -6,6 +6,7 @@ use sheet::TurnAnswer;
 use sheet::TurnRefusal;
 ghost use mathlib.Core.Path.{_≡_};
 ghost use mathlib.Core.Bool.{true};
+ghost use mathlib.Core.Logic.{_↔_};
 ghost use Prim.Native.Nat.{_≤_};
 ghost use lib.ListN.{length};
 ghost use Rattle.laws.specs.Counting.{first};
@@ -39,10 +40,11 @@ fn comes_next(p: u32, s: u32, q: u32, t: u32) -> bool
     t - 1 == s
 }
 
-// Whether the numbers run along the turn list from edge to edge, as they do along the right one and no other.
+// Whether the numbers run along the turn list from edge to edge, as they do along the right one and no other. It is so exactly then: a right list never
+// costs the sort.
 fn runs(polygons: &[u32], sequences: &[u32], turns: &[u32]) -> bool
     requires { ⌜ (length (now sequences) ≡ length (now polygons)) × (length (now turns) ≡ length (now polygons)) ⌝ }
-    ensures { λ r. ⌜ (r ≡ true → Runs (numberLists (now (polygons .entry)) (now (sequences .entry))) (now (turns .entry))) ⌝ }
+    ensures { λ r. ⌜ (r ≡ true) ↔ Runs (numberLists (now (polygons .entry)) (now (sequences .entry))) (now (turns .entry)) ⌝ }
 {
     let n = turns.len();
     let mut polygon: u32 = 0;

@@ -16,7 +16,7 @@ returns-3 c = on-turns _ _ _ _ (c .before .before .if1 .left) (c .before .if2 .l
 returns-4 : tie.Need-returns-4
 returns-4 c =
     on-run _ _ _ _ (c .before .before .before .before .if1 .left) (c .before .before .before .if2 .left) (c .before .before .if3 .left) (c .before .before .before .before .before .before .before .before .pre)
-    (c .before .runs .ensures (c .if4 .taken))
+    (c .before .runs .ensures .0 (c .if4 .taken))
 
 returns-5 : tie.Need-returns-5
 returns-5 c = rw (c .before .before .before .before .before .before .before .if1 .left) at (c .before .compare .ensures)

@@ -6,10 +6,10 @@ use native.Mathlib.Omega.{arith}
 use lib.ListN.{getD}
 use borrow.Author.Needs.{needs}
 use Rattle.laws.proofs.Deciding.{not-both}
-use Rattle.laws.proofs.Tests.{not-false}
+use Rattle.laws.proofs.Tests.{not-true, not-false}
 use Rattle.sheet.specs.TurnList.{numberLists}
 use Rattle.cutter.specs.Runs.{RunsTo}
-use Rattle.cutter.proofs.Running.{Carried, carried-first, carried-next, run-none, run-further, run-all}
+use Rattle.cutter.proofs.Running.{Carried, carried-first, carried-next, run-none, run-further, run-all, next-along}
 use Rattle.cutter.proofs.turning.runs.Statement.{statement}
 use Rattle.cutter.proofs.turning.runs.Tie as tie
 
@@ -27,10 +27,16 @@ cast-e : tie.Need-cast-e Inv-loop μ-loop
 cast-e c = record { fits = omega (arith, c .shared-slice-known4 .given (c .before .before .loop .i)) }
 
 returns : tie.Need-returns Inv-loop μ-loop
-returns c = λ q. absurd (not-both q refl)
+unfolding numberLists
+returns c =
+    let l = c .before .before .before .loop in
+    (λ q. absurd (not-both q refl), λ R. absurd (omega (arith, R .size, R .to-end .places (l .i) (search needs))))
 
 returns-2 : tie.Need-returns-2 Inv-loop μ-loop
-returns-2 c = λ q. absurd (not-both q refl)
+unfolding numberLists
+returns-2 c =
+    let l = c .before .before .before .before .before .before .before .loop in
+    (λ q. absurd (not-both q refl), λ R. absurd (not-both (c .before .comes-next .ensures ∙ next-along _ _ R (l .i) (l .inv .1) (search needs)) (not-true _ (c .if2 .taken))))
 
 loop-again : tie.Need-loop-again Inv-loop μ-loop
 unfolding numberLists
@@ -44,7 +50,7 @@ loop-again c =
 
 returns-3 : tie.Need-returns-3 Inv-loop μ-loop
 unfolding numberLists
-returns-3 c = λ _. run-all _ _ (c .before .loop .inv .2) (search needs) (c .before .before .before .before .before .pre .1)
+returns-3 c = (λ _. run-all _ _ (c .before .loop .inv .2) (search needs) (c .before .before .before .before .before .pre .1), λ _. refl)
 
 pub runs-spec : {M : Type 1} → statement M
 runs-spec =
