@@ -1,17 +1,17 @@
--- Lists that pass all that is asked before 18 are refused nothing else, and 18 exactly from the number of edges and twice the number of polygons on. The
--- turn list is the right one, since there is only one; the last edge in it is of the last polygon.
+-- Lists that pass all that is asked before 18 are refused nothing else, and 18 exactly from the number of edges and twice the number of polygons on. Such
+-- lists pass 11 to 14, 24 and 25, and what is promised settles the answer (OneAnswer.antt); the last edge in turn is of the last polygon.
 use mathlib.Core.Path.{_≡_, refl, sym, ap, _∙_}
-use mathlib.Core.Bool.{true, false, not}
+use mathlib.Core.Bool.{true, false}
 use mathlib.Core.List.{List}
 use mathlib.Core.Logic.{⊎-elim}
 use Prim.Native.Nat.{ℕ, suc, _+_, _-_, _*_, _≤_, _<_}
 use native.Mathlib.Omega.{arith}
-use borrow.Author.Tests.{eq-eqb, ne-eqb, lt-ltb, le-ltb, ltb-true, ltb-false}
-use lib.Dec.{eqb, ltb}
+use borrow.Author.Tests.{eq-eqb, ne-eqb, lt-ltb, le-ltb}
+use lib.Dec.{ltb}
 use lib.IntN.{ℤ}
 use lib.ListN.{length, getD}
 use Rattle.laws.specs.Counting.{first}
-use Rattle.laws.proofs.Deciding.{lt-or-le, true-or-false}
+use Rattle.laws.proofs.Deciding.{lt-or-le}
 use Rattle.laws.proofs.First.{first-none}
 use Rattle.sheet.specs.declared.Check.the-variants as check
 use Rattle.sheet.specs.declared.TurnAnswer.the-variants.{Accepted}
@@ -20,21 +20,23 @@ use Rattle.sheet.specs.TurnList.{numberLists, turned, TurnList}
 use Rattle.sheet.proofs.ExactlyAccepted.{accepts-exactly}
 use Rattle.checks.specs.Stages.{andThen, listChecked, edgesAloneChecked}
 use Rattle.checks.proofs.Answering.{alone-fit}
-use Rattle.turns.proofs.OneTurnList.{every-edge, one-turn-list}
+use Rattle.turns.proofs.OneTurnList.{every-edge}
 use Rattle.cutter.specs.declared.machines.Machine.{Machine}
 use Rattle.cutter.specs.declared.blade.Instruction.{Instruction}
 use Rattle.cutter.specs.declared.blade.Instruction.the-variants.{Lift}
-use Rattle.cutter.specs.declared.CutRefusal.the-variants.{TurnsDiffer, HeadNotTail, PastLast}
+use Rattle.cutter.specs.declared.CutRefusal.the-variants.{PastLast}
 use Rattle.cutter.specs.declared.Step.{Step}
 use Rattle.cutter.specs.declared.Step.the-variants.{Next, Refused}
 use Rattle.cutter.specs.Places.{placeFor}
 use Rattle.cutter.specs.Programme.{programme}
 use Rattle.cutter.specs.Outlines.{outlinesOf, headNotTail}
-use Rattle.cutter.specs.Instructed.{kth, notAsLong, turnDiffers, turnedStep, joinedStep, instructed, Instructs}
+use Rattle.cutter.specs.Instructed.{kth, Instructs}
 use Rattle.cutter.specs.Runs.{Runs}
-use Rattle.cutter.specs.Position.{upToCut, pastLast, beforeEnd}
+use Rattle.cutter.specs.Position.{upToCut, pastLast}
 use Rattle.cutter.proofs.RightTurns.{right-runs}
-use Rattle.cutter.proofs.TurnsTried.{refuse-not}
+use Rattle.cutter.proofs.TurnsTried.{on-run}
+use Rattle.cutter.proofs.Instructing.{on-joined}
+use Rattle.cutter.proofs.OneAnswer.{one-answer}
 use Rattle.cutter.proofs.KthInstruction.{when-past, when-lift, when-found}
 
 module _ (list : List ℤ) (polygons sequences turns : List ℕ) {c : ℕ}
@@ -75,7 +77,7 @@ module _ (list : List ℤ) (polygons sequences turns : List ℕ) {c : ℕ}
       (lt-or-le 0 c)
 
   module _ (k : ℕ) where
-    pub past-told : length turns + 2 * c ≤ k → pastLast polygons turns k ≡ true
+    past-told : length turns + 2 * c ≤ k → pastLast polygons turns k ≡ true
     unfolding pastLast upToCut polygon-of
     past-told h = ⊎-elim
         (λ l.
@@ -84,7 +86,7 @@ module _ (list : List ℤ) (polygons sequences turns : List ℕ) {c : ℕ}
         (λ l. rw (eq-eqb (length turns) 0 (omega (arith, l))) refl)
         (lt-or-le 0 (length turns))
 
-    pub not-past-told : k < length turns + 2 * c → pastLast polygons turns k ≡ false
+    not-past-told : k < length turns + 2 * c → pastLast polygons turns k ≡ false
     unfolding pastLast upToCut polygon-of
     not-past-told h = ⊎-elim
         (λ l.
@@ -94,27 +96,10 @@ module _ (list : List ℤ) (polygons sequences turns : List ℕ) {c : ℕ}
         (lt-or-le 0 (length turns))
 
     module _ (m : Machine) (joined : (i : ℕ) → i < length turns → headNotTail list sequences turns i ≡ false) {r : Step} (I : Instructs m list polygons sequences turns k r) where
-      right-is : I .right ≡ turns
-      right-is = one-turn-list (I .given c accepted) T
-
-      differs-nowhere : (i : ℕ) → i < length turns → turnDiffers turns (I .right) i ≡ false
-      unfolding turnDiffers
-      differs-nowhere i l = rw right-is (rw (eq-eqb (getD turns i 0) (getD turns i 0) refl) refl)
-
-      long-enough : notAsLong (edgesIn list) polygons sequences turns ≡ false
-      unfolding notAsLong
-      long-enough = rw (eq-eqb (length polygons) (edgesIn list) polygons-long, eq-eqb (length sequences) (edgesIn list) sequences-long, eq-eqb (length turns) (edgesIn list) turns-long) refl
-
-      before-joining : instructed m list polygons sequences turns (I .right) k ≡ joinedStep m list sequences turns k
-      unfolding instructed turnedStep
-      before-joining = rw (passed, long-enough, accepted) (sym (refuse-not _ _ _ refl TurnsDiffer (joinedStep m list sequences turns k) (omega (arith, first-none _ (length turns) differs-nowhere))))
-
-      after-joining : joinedStep m list sequences turns k ≡ kth (programme (placeFor m) (outlinesOf list sequences turns)) k
-      unfolding joinedStep
-      after-joining = sym (refuse-not _ _ _ refl (λ i. HeadNotTail (getD turns i 0)) _ (omega (arith, first-none _ (length turns) joined)))
-
       step-is : r ≡ kth (programme (placeFor m) (outlinesOf list sequences turns)) k
-      step-is = I .answer ∙ before-joining ∙ after-joining
+      step-is =
+          let checked = on-run (edgesIn list) polygons sequences turns polygons-long sequences-long turns-long (alone-fit list passed .few) runs in
+          one-answer m list polygons sequences turns k I (on-joined m list polygons sequences turns k passed checked refl _ refl (omega (arith, turns-long, first-none _ (length turns) joined)) refl)
 
       pub past : length turns + 2 * c ≤ k → r ≡ Refused PastLast
       past h = step-is ∙ sym (when-past m list polygons sequences turns runs k (past-told h))
