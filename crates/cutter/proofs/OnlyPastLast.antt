@@ -33,7 +33,7 @@ use Rattle.cutter.specs.Outlines.{outlinesOf, headNotTail}
 use Rattle.cutter.specs.Instructed.{kth, Instructs}
 use Rattle.cutter.specs.Runs.{Runs}
 use Rattle.cutter.specs.Position.{upToCut, pastLast}
-use Rattle.cutter.proofs.RightTurns.{right-runs}
+use Rattle.cutter.proofs.RightTurns.{right-runs, run-long}
 use Rattle.cutter.proofs.TurnsTried.{on-run}
 use Rattle.cutter.proofs.Instructing.{on-joined}
 use Rattle.cutter.proofs.OneAnswer.{one-answer}
@@ -44,12 +44,11 @@ module _ (list : List ℤ) (polygons sequences turns : List ℕ) {c : ℕ}
     (polygons-long : length polygons ≡ edgesIn list) (sequences-long : length sequences ≡ edgesIn list)
     (accepted : turned polygons sequences (length turns) ≡ Accepted c)
     (T : TurnList (numberLists polygons sequences) turns) where
-  turns-long : length turns ≡ edgesIn list
-  unfolding numberLists
-  turns-long = T .size ∙ polygons-long
-
   pub runs : Runs (numberLists polygons sequences) turns
   runs = right-runs polygons sequences turns (sequences-long ∙ sym polygons-long) (omega (arith, polygons-long, alone-fit list passed .few)) c accepted T
+
+  turns-long : length turns ≡ edgesIn list
+  turns-long = run-long polygons sequences turns runs ∙ polygons-long
 
   -- the last edge in turn is of the last polygon, and without an edge there is none
   polygon-of : ℕ → ℕ

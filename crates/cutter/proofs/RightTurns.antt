@@ -25,9 +25,12 @@ module _ (polygons sequences turns : List ℕ) (same : length sequences ≡ leng
   right-runs c q T = turn-list-runs T (accepts-exactly polygons sequences (length turns) c .0 q .numbering)
 
 module _ (polygons sequences turns : List ℕ) (R : Runs (numberLists polygons sequences) turns) where
-  within : (i : ℕ) → i < length turns → i < length polygons
+  pub run-long : length turns ≡ length polygons
   unfolding numberLists
-  within i l = omega (arith, R .size)
+  run-long = R .size
+
+  within : (i : ℕ) → i < length turns → i < length polygons
+  within i l = omega (arith, run-long)
 
   -- the numbers along it, as they stand in the lists
   pub run-begins : 0 < length turns → (getD polygons (getD turns 0 0) 0 ≡ 1) × (getD sequences (getD turns 0 0) 0 ≡ 0)

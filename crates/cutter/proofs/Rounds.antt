@@ -1,12 +1,12 @@
 -- Round an outline, told by the sequence numbers along a turn list: the next edge stands behind, or the sequence number back.
-use mathlib.Core.Path.{_≡_, refl, sym, ap, _∙_}
-use mathlib.Core.Bool.{true, false, not, cond, _&&_}
+use mathlib.Core.Path.{_≡_, refl}
 use mathlib.Core.List.{List}
-use Prim.Native.Nat.{ℕ, suc, _+_, _-_, _≤_, _<_}
+use Prim.Native.Nat.{ℕ, suc, _-_, _≤_, _<_}
 use native.Mathlib.Omega.{arith}
 use borrow.Author.Tests.{eq-eqb, ne-eqb, lt-ltb, le-ltb}
-use lib.Dec.{eqb, ltb}
+use lib.Dec.{ltb}
 use lib.ListN.{length, getD}
+use Rattle.laws.proofs.Tests.{and-false}
 use Rattle.cutter.specs.Outlines.{nextAt}
 
 module _ (sequences turns : List ℕ) (i : ℕ) where
@@ -19,10 +19,6 @@ module _ (sequences turns : List ℕ) (i : ℕ) where
   pub next-back : (b : ℕ) → b ≡ suc i → getD sequences (getD turns b 0) 0 ≡ 0 → i - getD sequences (getD turns i 0) 0 ≡ nextAt sequences turns i
   unfolding nextAt
   next-back b q z = rw (eq-eqb (getD sequences (getD turns (suc i) 0) 0) 0 (rw q at z), and-false (ltb (suc i) (length turns))) refl
-    where
-      and-false : (t : _) → (t && false) ≡ false
-      and-false true = refl
-      and-false false = refl
 
   pub next-back-last : length turns ≤ suc i → i - getD sequences (getD turns i 0) 0 ≡ nextAt sequences turns i
   unfolding nextAt

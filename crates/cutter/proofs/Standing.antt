@@ -7,12 +7,11 @@ use lib.IntN.{ℤ}
 use lib.ListN.{length, getD}
 use Rattle.sheet.specs.TurnList.{numberLists}
 use Rattle.cutter.specs.Joined.{Within, Standing, Drawable}
-use Rattle.cutter.proofs.RightTurns.{sequence-back}
+use Rattle.cutter.proofs.RightTurns.{run-long, sequence-back}
 
 module _ {list : List ℤ} {polygons sequences turns : List ℕ} (D : Drawable list polygons sequences turns) where
   pub as-long : length turns ≡ length polygons
-  unfolding numberLists
-  as-long = D .runs .size
+  as-long = run-long polygons sequences turns (D .runs)
 
   pub edge-there : (i : ℕ) → i < length turns → getD turns i 0 < length polygons
   unfolding numberLists

@@ -19,7 +19,7 @@ use Rattle.turns.proofs.OneTurnList.{places-differ}
 use Rattle.assembly.specs.Assembled.{CutInOrder}
 use Rattle.cutter.specs.Outlines.{nextAt, headNotTail}
 use Rattle.cutter.specs.Runs.{Runs}
-use Rattle.cutter.proofs.RightTurns.{run-onward, zero-before}
+use Rattle.cutter.proofs.RightTurns.{run-long, run-onward, zero-before}
 use Rattle.cutter.proofs.Rounds.{next-behind, next-back, next-back-last}
 
 itself : (p : Point) → isSame p p ≡ true
@@ -29,10 +29,6 @@ itself p = rw (sameZ-yes (p .y) (p .y) refl) (sameZ-yes (p .x) (p .x) refl)
 module _ {list : List ℤ} {polygons sequences turns : List ℕ} {n : ℕ} (C : CutInOrder list polygons sequences turns n) (R : Runs (numberLists polygons sequences) turns) where
   abbrev turn : ℕ → ℕ
   turn i = getD turns i 0
-
-  long : length turns ≡ length polygons
-  unfolding numberLists
-  long = R .size
 
   meeting : (i next : ℕ) → next ≡ nextAt sequences turns i → edgeAt list (turn i) .head ≡ edgeAt list (turn next) .tail → headNotTail list sequences turns i ≡ false
   unfolding headNotTail
@@ -44,6 +40,7 @@ module _ {list : List ℤ} {polygons sequences turns : List ℕ} {n : ℕ} (C : 
   one-position i j il jl p s =
       let G = accepts-exactly polygons sequences (length turns) n .0 (C .never-refused) .numbering in
       let T = C .turn-list in
+      let long = run-long polygons sequences turns R in
       let a : i < length polygons = omega (arith, il, long) in
       let b : j < length polygons = omega (arith, jl, long) in
       places-differ T i j a b (G .no-repeat (turn i) (turn j) (T .places i a) (T .places j b) p s)

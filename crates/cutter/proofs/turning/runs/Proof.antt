@@ -30,7 +30,7 @@ returns : tie.Need-returns Inv-loop μ-loop
 unfolding numberLists
 returns c =
     let l = c .before .before .before .loop in
-    (λ q. absurd (not-both q refl), λ R. absurd (omega (arith, R .size, R .to-end .places (l .i) (search needs))))
+    (λ q. absurd (not-both q refl), λ R. absurd (omega (arith, R .to-end .places (l .i) (search needs))))
 
 returns-2 : tie.Need-returns-2 Inv-loop μ-loop
 unfolding numberLists
