@@ -4,7 +4,7 @@ use mathlib.Core.Path.{_≡_, refl, sym, ap, _∙_, subst}
 use mathlib.Core.Bool.{cond}
 use mathlib.Core.List.{List}
 use mathlib.Core.Logic.{⊎-elim}
-use Prim.Native.Nat.{ℕ, _+_, _*_, _≤_, _<_}
+use Prim.Native.Nat.{ℕ, _+_, _*_}
 use native.Mathlib.Omega.{arith}
 use borrow.Author.Tests.{lt-ltb, le-ltb}
 use lib.Dec.{ltb}
@@ -26,7 +26,7 @@ use Rattle.cutter.proofs.OnlyPastLast.{runs, past, not-past}
 use Rattle.desk.specs.declared.Sheet.{Sheet}
 use Rattle.desk.specs.declared.Cut as desk
 use Rattle.desk.specs.Exported.{Exports}
-use Rattle.desk.specs.Told.{instructionTold, cutFrom, Told}
+use Rattle.desk.specs.Told.{cutFrom, Told}
 use Rattle.desk.proofs.Accepting.{refused-not-zero, sheet-refused}
 use Rattle.desk.proofs.AcceptedSheet.{accepted-sheet}
 use Rattle.desk.proofs.HeadsMeetTails.{heads-meet-tails}

@@ -1,5 +1,5 @@
 -- `instruction_told` meets its contract, case by case.
-use mathlib.Core.Path.{_≡_, sym, ap}
+use mathlib.Core.Path.{sym, ap}
 use lib.Ieee.{ofBits}
 use Rattle.desk.specs.Told.{instructionTold}
 use borrow.Author.Needs.{needs}

@@ -1,9 +1,8 @@
 -- `cutter::joining::head_not_tail` meets its contract: the two edges that it reads are those that the definition names.
 use borrow.Author.Needs.{needs}
 use native.Mathlib.Omega.{arith}
-use mathlib.Core.Path.{_≡_, refl, sym, ap, _∙_}
+use mathlib.Core.Path.{ap}
 use mathlib.Core.Bool.{not}
-use lib.ListN.{length, getD}
 use Rattle.cutter.specs.Outlines.{headNotTail}
 use Rattle.cutter.proofs.joining.head_not_tail.Statement.{statement}
 use Rattle.cutter.proofs.joining.head_not_tail.Tie as tie

@@ -1,12 +1,10 @@
 -- `cutter::joining::next_at` meets its contract: the edge behind is there, and so are as many positions before as the sequence number says.
 use borrow.Author.Needs.{needs}
 use native.Mathlib.Omega.{arith}
-use mathlib.Core.Path.{_≡_, refl, sym}
 use mathlib.Core.Logic.{⊎-elim}
 use Prim.Native.Nat.{_+_}
-use lib.ListN.{length, getD}
+use lib.ListN.{getD}
 use Rattle.cutter.proofs.Rounds.{next-behind, next-back, next-back-last}
-use Rattle.cutter.specs.Outlines.{nextAt}
 use Rattle.cutter.proofs.joining.next_at.Statement.{statement}
 use Rattle.cutter.proofs.joining.next_at.Tie as tie
 

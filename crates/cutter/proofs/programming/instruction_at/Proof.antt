@@ -2,8 +2,7 @@
 -- the last cut.
 use borrow.Author.Needs.{needs}
 use native.Mathlib.Omega.{arith}
-use mathlib.Core.Path.{_≡_, sym, ap, _∙_}
-use lib.ListN.{length, getD}
+use mathlib.Core.Path.{sym, _∙_}
 use Rattle.cutter.proofs.Standing.{within-polygons, edge-there}
 use Rattle.cutter.proofs.KthInstruction.{when-past, when-lift, passed, when-found}
 use Rattle.cutter.proofs.programming.instruction_at.Statement.{statement}

@@ -1,6 +1,5 @@
 -- `cutter::programming::position_of` meets its contract. The loop's invariant: no position below i has a count that passes k.
 use borrow.Author.Needs.{needs}
-use native.Mathlib.Omega.{arith}
 use Prim.Native.Nat.{_≤_, _-_}
 use borrow.Author.Tests.{lt-ltb, le-ltb}
 use lib.Dec.{ltb}
