@@ -19,7 +19,7 @@ use Rattle.sheet.specs.declared.Check.the-variants.{Passed, Refused}
 use Rattle.sheet.specs.Edges.{edgesIn, drawingOf}
 use Rattle.sheet.specs.Answers.{Call, notWhole, tooMany, listsDiffer, journalShort, edgeFault, faultOf, repeats, uneven, refuseIf, refuseFirst, checked}
 use Rattle.checks.specs.declared.places.AtFault.{AtFault}
-use Rattle.checks.specs.Stages.{andThen, listChecked, lengthsChecked, edgesChecked, aloneFault, edgesAloneChecked, placesChecked}
+use Rattle.checks.specs.Stages.{andThen, listChecked, lengthsChecked, edgesChecked, edgeFaultAlone, edgesAloneChecked, placesChecked}
 use Rattle.checks.specs.Faults.{EndsFit}
 use Rattle.checks.specs.Places.{firstAtFault}
 use Rattle.checks.proofs.EdgeFaults.{none-alone, none-of}
@@ -127,11 +127,11 @@ few-edges s h = ltb-false _ _ (if-passed (ltb mostEdges (edgesIn s)) TooMany Pas
 no-fault : (test : ℕ → Bool) (n : ℕ) (refusal : ℕ → Refusal) → refuseFirst test n refusal Passed ≡ Passed → NoneBelow test n
 no-fault test n refusal h k l = let m : n ≤ first test n = ltb-false _ _ (if-passed (ltb (first test n) n) (refusal (first test n)) Passed h .0) in first-least test n k (omega arith)
 
-alone-ends-fit : (s : List ℤ) → edgesIn s ≤ mostEdges → NoneBelow (aloneFault s) (edgesIn s) → EndsFit s (edgesIn s)
+alone-ends-fit : (s : List ℤ) → edgesIn s ≤ mostEdges → NoneBelow (edgeFaultAlone s) (edgesIn s) → EndsFit s (edgesIn s)
 unfolding edgesIn
 alone-ends-fit s few none = record { all = refl; few = few; long = omega arith; in-range = λ e l. none-alone s e (none e l) .0; on-film = λ e l. none-alone s e (none e l) .1; two-ends = λ e l. none-alone s e (none e l) .2 }
 
-without-seven : (s : List ℤ) (e : ℕ) → edgeFault s e ≡ false → aloneFault s e ≡ false
+without-seven : (s : List ℤ) (e : ℕ) → edgeFault s e ≡ false → edgeFaultAlone s e ≡ false
 without-seven s e none = let w = none-of s e none in rw (w .0, w .1, w .2) refl
 
 pub ends-fit : (s : List ℤ) → edgesIn s ≤ mostEdges → NoneBelow (edgeFault s) (edgesIn s) → EndsFit s (edgesIn s)
@@ -145,7 +145,7 @@ pub alone-fit : (s : List ℤ) → andThen (listChecked s) (edgesAloneChecked s)
 unfolding edgesAloneChecked
 alone-fit s h =
     let w = stage-passed (listChecked s) _ h in
-    alone-ends-fit s (few-edges s (w .0)) (no-fault (aloneFault s) (edgesIn s) (faultOf s) (w .1))
+    alone-ends-fit s (few-edges s (w .0)) (no-fault (edgeFaultAlone s) (edgesIn s) (faultOf s) (w .1))
 
 -- a list that passes all that a sheet's call asks of its edges passes what is asked of them alone
 pub alone-passed : (c : Call) → checked c ≡ Passed → andThen (listChecked (c .list)) (edgesAloneChecked (c .list)) ≡ Passed
@@ -153,5 +153,5 @@ unfolding edgesAloneChecked edgesChecked
 alone-passed c h =
     let w = stage-passed (lengthsChecked c) _ (by-stages c ∙ h) in
     let none = no-fault (edgeFault (c .list)) (edgesIn (c .list)) (faultOf (c .list)) (stage-passed (edgesChecked (c .list)) _ (w .1) .0) in
-    let least = first-none (aloneFault (c .list)) (edgesIn (c .list)) (λ e l. without-seven (c .list) e (none e l)) in
+    let least = first-none (edgeFaultAlone (c .list)) (edgesIn (c .list)) (λ e l. without-seven (c .list) e (none e l)) in
     rw (list-passed c (w .0)) (sym (refuse-not _ _ _ refl (faultOf (c .list)) Passed (omega (arith, least))))

@@ -17,7 +17,7 @@ use Rattle.sheet.specs.Points.{sameZ, within, inRange, isFilm, isSame, isBelow,
 use Rattle.sheet.specs.Edges.{edgeAt}
 use Rattle.sheet.specs.Answers.{pastRange, filmPastRange, equalEnds, topFalls, edgeFault}
 use Rattle.checks.specs.Faults.{endPastRange, filmPast, endsEqual, faultAlone, topBelow, beforeFirst, faultAfter, edgeBefore, EndsFit}
-use Rattle.checks.specs.Stages.{aloneFault}
+use Rattle.checks.specs.Stages.{edgeFaultAlone}
 
 not-under : (z : ℤ) → within z ≡ true → ltZ z (negsuc 999999) ≡ false
 unfolding within
@@ -50,7 +50,7 @@ unfolding endPastRange
 ends-in-range e h = both-true (inRange (e .tail)) (inRange (e .head)) (not-false _ h)
 
 -- an edge by itself has a fault where the answer sheet says so
-alone-fault : (s : List ℤ) (e : ℕ) → faultAlone (edgeAt s e) ≡ aloneFault s e
+alone-fault : (s : List ℤ) (e : ℕ) → faultAlone (edgeAt s e) ≡ edgeFaultAlone s e
 unfolding faultAlone endPastRange pastRange filmPastRange equalEnds
 alone-fault s e = refl
 
@@ -87,7 +87,7 @@ module _ (s : List ℤ) (e : ℕ) {edge : Edge} {r : Bool} (read : edge ≡ edge
   pub fault-told : {before : Edge} → before ≡ edgeBefore s e → r ≡ faultAfter before edge → edgeFault s e ≡ r
   fault-told b h = sym (fault-after s e) ∙ ap (λ (f : Edge). faultAfter f (edgeAt s e)) (sym b) ∙ told (faultAfter _) h
 
-  pub alone-told : r ≡ faultAlone edge → aloneFault s e ≡ r
+  pub alone-told : r ≡ faultAlone edge → edgeFaultAlone s e ≡ r
   alone-told h = sym (alone-fault s e) ∙ told faultAlone h
 
   pub past-told : r ≡ endPastRange edge → pastRange s e ≡ r
@@ -103,7 +103,7 @@ module _ (s : List ℤ) (e : ℕ) {edge : Edge} {r : Bool} (read : edge ≡ edge
   equal-told h = told endsEqual h
 
 -- 5, 16 and 6 one by one, and 7
-pub none-alone : (s : List ℤ) (e : ℕ) → aloneFault s e ≡ false → (pastRange s e ≡ false) × (filmPastRange s e ≡ false) × (equalEnds s e ≡ false)
+pub none-alone : (s : List ℤ) (e : ℕ) → edgeFaultAlone s e ≡ false → (pastRange s e ≡ false) × (filmPastRange s e ≡ false) × (equalEnds s e ≡ false)
 none-alone s e none =
     let a = neither-true (pastRange s e) _ none in
     let b = neither-true (filmPastRange s e) _ (a .1) in

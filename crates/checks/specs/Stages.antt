@@ -27,8 +27,8 @@ unfoldable pub lengthsChecked : Call → Check
 lengthsChecked c = andThen (listChecked (c .list)) (refuseIf (listsDiffer c) ListsDiffer (refuseIf (journalShort c) JournalShort Passed))
 
 -- what an edge has by itself: 5, 16 or 6
-abbrev pub aloneFault : List ℤ → ℕ → Bool
-aloneFault s e = pastRange s e || (filmPastRange s e || equalEnds s e)
+abbrev pub edgeFaultAlone : List ℤ → ℕ → Bool
+edgeFaultAlone s e = pastRange s e || (filmPastRange s e || equalEnds s e)
 
 -- 5, 16, 6 and 7
 unfoldable pub edgesChecked : List ℤ → Check
@@ -36,7 +36,7 @@ edgesChecked s = refuseFirst (edgeFault s) (edgesIn s) (faultOf s) Passed
 
 -- 5, 16 and 6, for calls that don't ask for an order of the edges
 unfoldable pub edgesAloneChecked : List ℤ → Check
-edgesAloneChecked s = refuseFirst (aloneFault s) (edgesIn s) (faultOf s) Passed
+edgesAloneChecked s = refuseFirst (edgeFaultAlone s) (edgesIn s) (faultOf s) Passed
 
 -- 8 over the whole list, then 9
 unfoldable pub placesChecked : List ℤ → Check

@@ -10,7 +10,7 @@ ghost use Rattle.laws.specs.Counting.{first};
 ghost use Rattle.sheet.specs.Edges.{edgesIn};
 ghost use Rattle.sheet.specs.Answers.{edgeFault, faultOf};
 ghost use Rattle.checks.specs.Faults.{endPastRange, filmPast, endsEqual, faultAlone, topBelow, beforeFirst, faultAfter, firstRefusal};
-ghost use Rattle.checks.specs.Stages.{aloneFault, edgesChecked, edgesAloneChecked};
+ghost use Rattle.checks.specs.Stages.{edgeFaultAlone, edgesChecked, edgesAloneChecked};
 ghost use Rattle.sheet.specs.Amounts.{numbersPerEdge, mostEdges};
 
 // 5: an end is out of the range.
@@ -139,7 +139,7 @@ fn fault_of(edges: &[i32], e: usize) -> Refusal
 // The first of n edges with 5, 16 or 6, n where there is none.
 fn first_alone(edges: &[i32], n: usize) -> usize
     requires { ⌜ numbersPerEdge * n ≤ length (now edges) ⌝ }
-    ensures { λ r. ⌜ r ≡ first (aloneFault (now (edges .entry))) n ⌝ }
+    ensures { λ r. ⌜ r ≡ first (edgeFaultAlone (now (edges .entry))) n ⌝ }
 {
     let mut e: usize = 0;
     while e < n {

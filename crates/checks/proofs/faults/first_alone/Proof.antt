@@ -3,13 +3,13 @@ use mathlib.Core.Path.{_∙_}
 use Prim.Native.Nat.{_≤_, _-_}
 use borrow.Author.Needs.{needs}
 use Rattle.laws.proofs.Searching.{NoneBelow, none-yet, none-more, found-first, found-none}
-use Rattle.checks.specs.Stages.{aloneFault}
+use Rattle.checks.specs.Stages.{edgeFaultAlone}
 use Rattle.checks.proofs.EdgeFaults.{alone-told}
 use Rattle.checks.proofs.faults.first_alone.Statement.{statement}
 use Rattle.checks.proofs.faults.first_alone.Tie as tie
 
 abbrev Inv-loop : tie.InvT-loop
-Inv-loop edges n e₀ e = (e ≤ n) × NoneBelow (aloneFault edges) e
+Inv-loop edges n e₀ e = (e ≤ n) × NoneBelow (edgeFaultAlone edges) e
 
 abbrev μ-loop : tie.MeasureT-loop
 μ-loop edges n e₀ e = n - e
