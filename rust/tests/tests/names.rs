@@ -196,7 +196,8 @@ fn in_the_engines_types() {
 }
 
 /// The definitions that give each case its number and its place: lines such as
-/// `numberOf (PastRange e) = 5` and `placeOf (PastRange e) = e`.
+/// `numberOf (PastRange e) = 5` and `placeOf (PastRange e) = e`. A name in capitals
+/// is a type's, and gives none.
 #[test]
 fn in_the_engines_definitions() {
     let (mut found, mut placed, mut none) = (Names::new(), Places::new(), BTreeSet::new());
@@ -206,7 +207,8 @@ fn in_the_engines_definitions() {
             let is = |what: &str| name.ends_with(&format!("{what}Of")) || name.ends_with(what);
             let case = word(rest.trim_start_matches('(')).to_string();
             let (number, place) = (is("umber"), is("lace"));
-            if !(number || place) || !case.starts_with(char::is_uppercase) {
+            let gives = name.starts_with(char::is_lowercase) && (number || place);
+            if !gives || !case.starts_with(char::is_uppercase) {
                 continue;
             }
             let given = match rest.split_once(" = ") {
