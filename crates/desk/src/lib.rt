@@ -29,7 +29,7 @@ pub struct Turned {
 }
 
 // What an instruction's call answers. Refusal 0: an instruction, with place 0; what it is, 0 travel, 1 cut, 2 lift; and where to, in millimetres in the
-// machine's own order. A lift and a refusal have plus zero for both.
+// machine's own order. A lift and a refusal have plus zero for both, and a refusal 0 for what.
 #[repr(C)]
 pub struct Cut {
     pub refusal: u32,

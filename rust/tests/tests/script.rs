@@ -599,8 +599,8 @@ fn a_part_of_a_sheet() {
 }
 
 const FIRST: &str =
-    "outline: proving and building the program: about 3 minutes, more on a busy machine; this is done once\n";
-const AGAIN: &str = "outline: the program may be older than its sources: proving and building what has changed, a second to 3 minutes\n";
+    "outline: proving and building the program: 3 to 8 minutes by the machine, more on a busy one; this is done once\n";
+const AGAIN: &str = "outline: the program may be older than its sources: proving and building what has changed, a second to 8 minutes\n";
 const PROGRESS: &str =
     "outline: crate 1 of 3: laws proved (3 s)\noutline: crate 3 of 3: outline proved (17 s)\n";
 
