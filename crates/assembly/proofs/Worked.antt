@@ -44,7 +44,7 @@ touching-turn-list = neighbours-turn-list touchingNumbers touchingTurns refl pla
 pub touching-turns : {before after : List ℕ} {x : Left Answer} → Assembled (lentFor two-touching) before x after → after ≡ touchingTurns
 touching-turns a =
     let k = a .numbered .outcome-is in
-    let cut = a .accepted 2 4 11 (ap (λ x. x .answer) k ∙ all-worked .of-touching) in
+    let cut = a .accepted 2 3 11 (ap (λ x. x .answer) k ∙ all-worked .of-touching) in
     let polygons = ap (λ x. x .polygons) k ∙ all-worked .lists-of-touching in
     let sequences = ap (λ x. x .sequences) k ∙ all-worked .sequences-of-touching in
     one-turn-list (rw (polygons, sequences) at (cut .turn-list)) touching-turn-list

@@ -1,6 +1,5 @@
--- Where one path ends another begins: the seams between paths, and what follows from them about searches, lengths and rows passed up.
+-- Where one path ends another begins: the seams between paths, and what follows from them about searches and lengths.
 pub mod Seams
 pub mod OneOrigin
 pub mod FoundIsJoined
 pub mod LongOutline
-pub mod PassedUpOwnsNothing

@@ -4,7 +4,6 @@ pub mod StepsOnARow
 pub mod RowPassedUp
 pub mod OutlineClosed
 pub mod BothPassedUp
-pub mod NewBirth
 pub mod TableSeen
 pub mod StepsSeen
 pub mod Given

@@ -24,6 +24,7 @@ use Rattle.steps.specs.declared.End.the-variants.{Done, NoFreeRow, Overrun}
 use Rattle.steps.specs.SweepUp.{start}
 use Rattle.steps.specs.SweepDown.{sweepDown}
 use Rattle.steps.proofs.Bounded.{Within, sweep-within, edge-within, polygons-within}
+use Rattle.rows.proofs.Searching.{slice-alone}
 use Rattle.journal.specs.Layout.{recordSlice}
 use Rattle.sweep.specs.declared.Swept.{Swept}
 use Rattle.sweep.specs.Slices.{room, lentRoom, swept, isDone, listEdges}
@@ -42,7 +43,7 @@ is-done-end Overrun h = absurd (not-both h refl)
 module _ (l : Lent) (few : edgesIn (l .list) ≤ mostEdges) (eight : length (l .journal) ≡ journalNumbersPerEdge * edgesIn (l .list)) where
   within : Within (lentRoom (l .rows) (l .journal)) (sweptUp l .state)
   unfolding sweptUp room
-  within = sweep-within (lentRoom (l .rows) (l .journal)) _ (edgesIn (l .list)) (l .rows) (l .journal)
+  within = sweep-within (lentRoom (l .rows) (l .journal)) slice-alone _ (edgesIn (l .list)) (l .rows) (l .journal)
 
   pub records-fit : sweptUp l .state .records ≤ 8192
   unfolding room

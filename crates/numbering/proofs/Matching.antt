@@ -24,10 +24,12 @@ use Rattle.steps.specs.Rows.{on, with, Branch, Row, Chain, inRow, closing, Reco
 use Rattle.steps.specs.Plain.{put, newRow, withBranch, finishedBranch, freeRow, plainTable, plainJournal}
 use Rattle.steps.specs.Swept.{plainRoom, numbersPerRow, numbersPerRecord}
 use Rattle.steps.proofs.Alike.{AlikeBranch, AlikeRow, SmallChain, SmallRecord, Match}
+use Rattle.steps.proofs.Alone.{plain-alone}
 use Rattle.rows.specs.declared.Place.{Place}
 use Rattle.rows.specs.Layout as rows
 use Rattle.rows.specs.Layout.{onFilm, filmPlaces, filmIn, lookRow, openedIn, movedIn, finishedIn, freedIn}
 use Rattle.rows.proofs.Looking.{tip-is, one-film}
+use Rattle.rows.proofs.Searching.{slice-alone}
 use Rattle.rows.proofs.Writing.{OnlyRow, other-row, opened-only, moved-only, finished-only, freed-only, opened-here, moved-here, finished-here, freed-here}
 use Rattle.journal.specs.Layout as journal
 use Rattle.journal.specs.Layout.{fitting, rowNumber, recordAt, writtenIn}
@@ -158,7 +160,7 @@ written-holds {m} {k} {s} {j} {entry} lm H l h =
 
 -- the room of the slices, with so many rows and records, and that of the plain tables of a list
 abbrev pub sliceRoom : ℕ → ℕ → Room Place (List ℤ) (List ℤ)
-sliceRoom n m = record { places = filmPlaces; table = rows.rowSlice; journal = journal.recordSlice; rows = n; records = m }
+sliceRoom n m = record { places = filmPlaces; table = rows.rowSlice; journal = journal.recordSlice; rows = n; share = n; records = m }
 
 pub matched : (list : List ℤ) (n m m′ most : ℕ) → m ≡ m′ → m ≤ most → most < 2147483648 → Match (sliceRoom n m) (plainRoom (drawingOf list) n m′) Ranked (λ p. p .film) (HoldsRows n) (HoldsRecords m) most n
 unfolding filmPlaces rows.rowSlice journal.recordSlice plainTable plainJournal drawingOf
@@ -176,7 +178,10 @@ matched list n m m′ most e l u =
       finished = λ H r side v. finished-holds H r v side;
       freed = λ H r v. freed-holds H r v;
       written = λ H v h. written-holds u H v h;
+      alone = slice-alone;
+      alone′ = plain-alone;
       rows = refl;
+      share = refl;
       records = e;
       names = l;
     }

@@ -4,7 +4,7 @@
 use mathlib.Core.Path.{_≡_, refl, sym, ap, _∙_, subst}
 use mathlib.Core.Logic.{⊎-elim}
 use mathlib.Core.List.{List}
-use Prim.Native.Nat.{ℕ, _+_, _*_, _≤_, _<_}
+use Prim.Native.Nat.{ℕ, _+_, _-_, _*_, _≤_, _<_}
 use native.Mathlib.Omega.{arith}
 use lib.Dec.{eqb}
 use lib.IntN.{ℤ}
@@ -26,7 +26,7 @@ use Rattle.checks.proofs.Passed.{passed}
 use Rattle.steps.specs.declared.End.the-variants.{Done, NoFreeRow}
 use Rattle.steps.specs.Rows.{recordNumbers}
 use Rattle.steps.specs.SweepDown.{naturalPart}
-use Rattle.steps.specs.Swept.{rowsIn, readDown, LacksRow}
+use Rattle.steps.specs.Swept.{rowsIn, readDown, LacksRow, LacksItself}
 use Rattle.steps.proofs.Reaching.{SameRun}
 use Rattle.hartley.proofs.results.Results as results
 use Rattle.numbering.specs.Outcome.{Lent, Left, callOf, up, down, answerBy, leaves, outcome, leftAs}
@@ -104,6 +104,11 @@ module _ (l : Lent) where
   enough-rows ok E h =
       (_, _, _, ap (λ x. x .answer) (outcome-by l ok (results.enough-done (passed (callOf l) ok .sheet) (few l ok) (rowsIn (l .rows)) (E .polygon) (E .numbering .shared) (E .rows) (E .enough) h)))
 
+  fewer-enough : checked (callOf l) ≡ check.Passed → (E : RowsEnough l) → 1 + E .enough .log * (E .enough .C - 2) ≤ rowsIn (l .rows) → (polygons : ℕ) × (peak : ℕ) × (records : ℕ) × (outcome l .answer ≡ Accepted polygons peak records)
+  unfolding up drawingOf
+  fewer-enough ok E h =
+      (_, _, _, ap (λ x. x .answer) (outcome-by l ok (results.fewer-done (passed (callOf l) ok .sheet) (few l ok) (rowsIn (l .rows)) (E .polygon) (E .numbering .shared) (E .rows) (E .enough) h)))
+
   -- refusal 10
   lacks-row : (e : ℕ) → outcome l .answer ≡ Refused (NoRow e) → (checked (callOf l) ≡ check.Passed) × LacksRow (drawingOf (l .list)) (rowsIn (l .rows)) e
   lacks-row e q = by (way l)
@@ -115,6 +120,10 @@ module _ (l : Lent) where
           let f : Refused (NoRow (up l .edge)) ≡ Refused (NoRow e) = sym (ap (λ x. x .answer) w) ∙ q in
           let g : up l .edge ≡ e = cc in
           (ok, subst (λ (k : ℕ). LacksRow (drawingOf (l .list)) (rowsIn (l .rows)) k) g (unfold up drawingOf in results.lacks-row (passed (callOf l) ok .sheet) (few l ok) (rowsIn (l .rows)) d))
+
+  lacks-itself : (e : ℕ) → outcome l .answer ≡ Refused (NoRow e) → LacksItself (drawingOf (l .list)) (rowsIn (l .rows)) e
+  unfolding drawingOf
+  lacks-itself e q = let L = lacks-row e q in results.lacks-itself (passed (callOf l) (L .0) .sheet) (few l (L .0)) (rowsIn (l .rows)) e (L .1)
 
   no-row-then : (e : ℕ) → checked (callOf l) ≡ check.Passed → LacksRow (drawingOf (l .list)) (rowsIn (l .rows)) e → outcome l .answer ≡ Refused (NoRow e)
   unfolding up drawingOf
@@ -154,8 +163,10 @@ promised l x e =
       few-records = few-records l;
       enough-there = enough-there l;
       enough-rows = enough-rows l;
+      fewer-enough = fewer-enough l;
       peak-enough = peak-enough l;
       fewer-refused = fewer-refused l;
       lacks-row = lacks-row l;
+      lacks-itself = lacks-itself l;
       no-row = no-row-then l;
     })

@@ -1,5 +1,5 @@
--- The sheets of document 01 that are marked there, and sheets of several films, worked by the numbering's own definition: one table, one test that is computed over all of it.
--- With three of them, engines that cannot keep the promise: for each a short refutation.
+-- The sheets of document 01 that are marked there, with the peaks that M-103 gives them, and sheets of several films, worked by the numbering's own definition: one table, one test that is
+-- computed over all of it. With three of them, engines that cannot keep the promise: for each a short refutation.
 use Prim.Native.Nat.{ℕ, _*_, _/_, _≤_}
 use mathlib.Core.Path.{_≡_, refl, sym, ap, _∙_}
 use mathlib.Core.Bool.{Bool, true, false, _&&_}
@@ -23,6 +23,7 @@ use Rattle.sheet.specs.Kinds as kinds
 use Rattle.sheet.specs.Answers as answers
 use Rattle.sheet.specs.Answers.{numberOf, placeOf}
 use Rattle.sheet.proofs.Drawn.{triangle, twoEdges, square, twoPeaks, touching, threePairs, sharedSide, sideTwice, oneTop, oneTopAround, touchingFilms}
+use Rattle.steps.specs.Rows as rows
 use Rattle.steps.specs.SweepUp as up
 use Rattle.steps.specs.SweepDown as down
 use Rattle.steps.specs.Plain as plain
@@ -129,7 +130,7 @@ one-triangle = accepted triangle 1 1 1 4 (1 ∷ 1 ∷ 1 ∷ []) (1 ∷ 2 ∷ 0 �
 
 pub two-touching : Expected
 two-touching =
-    accepted touching 4 2 4 11 (2 ∷ 2 ∷ 1 ∷ 2 ∷ 2 ∷ 1 ∷ 1 ∷ []) (1 ∷ 2 ∷ 1 ∷ 3 ∷ 0 ∷ 2 ∷ 0 ∷ [])
+    accepted touching 3 2 3 11 (2 ∷ 2 ∷ 1 ∷ 2 ∷ 2 ∷ 1 ∷ 1 ∷ []) (1 ∷ 2 ∷ 1 ∷ 3 ∷ 0 ∷ 2 ∷ 0 ∷ [])
 
 three-pairs : Expected
 three-pairs = accepted threePairs 1 3 1 9 (3 ∷ 3 ∷ 2 ∷ 2 ∷ 1 ∷ 1 ∷ []) (1 ∷ 0 ∷ 1 ∷ 0 ∷ 1 ∷ 0 ∷ [])
@@ -141,14 +142,14 @@ sheets =
     ∷ one-triangle
     ∷ accepted twoEdges 1 1 1 3 (1 ∷ 1 ∷ []) (1 ∷ 0 ∷ [])
     ∷ accepted square 1 1 1 5 (1 ∷ 1 ∷ 1 ∷ 1 ∷ []) (2 ∷ 1 ∷ 3 ∷ 0 ∷ [])
-    ∷ accepted twoPeaks 3 1 3 7 (1 ∷ 1 ∷ 1 ∷ 1 ∷ []) (1 ∷ 2 ∷ 3 ∷ 0 ∷ [])
-    ∷ refused twoPeaks 2 10 3
+    ∷ accepted twoPeaks 2 1 2 7 (1 ∷ 1 ∷ 1 ∷ 1 ∷ []) (1 ∷ 2 ∷ 3 ∷ 0 ∷ [])
+    ∷ refused twoPeaks 1 10 1
     ∷ two-touching
     ∷ three-pairs
     ∷ accepted sharedSide 2 2 2 10 (2 ∷ 1 ∷ 2 ∷ 2 ∷ 2 ∷ 1 ∷ 1 ∷ 1 ∷ []) (2 ∷ 2 ∷ 1 ∷ 3 ∷ 0 ∷ 1 ∷ 3 ∷ 0 ∷ [])
     ∷ accepted oneTop 1 2 1 6 (2 ∷ 2 ∷ 1 ∷ 1 ∷ []) (1 ∷ 0 ∷ 1 ∷ 0 ∷ [])
     ∷ accepted oneTopAround 2 2 2 6 (1 ∷ 2 ∷ 2 ∷ 1 ∷ []) (1 ∷ 1 ∷ 0 ∷ 0 ∷ [])
-    ∷ accepted touchingFilms 4 2 4 11 (2 ∷ 2 ∷ 1 ∷ 2 ∷ 2 ∷ 1 ∷ 1 ∷ []) (1 ∷ 2 ∷ 1 ∷ 3 ∷ 0 ∷ 2 ∷ 0 ∷ [])
+    ∷ accepted touchingFilms 3 2 3 11 (2 ∷ 2 ∷ 1 ∷ 2 ∷ 2 ∷ 1 ∷ 1 ∷ []) (1 ∷ 2 ∷ 1 ∷ 3 ∷ 0 ∷ 2 ∷ 0 ∷ [])
     ∷ refused (0 ∷ 0 ∷ 4 ∷ []) 1 1 0
     ∷ refusedWith (replicate (numbersPerEdge * 4097) 0) 0 0 0 0 0 2 0
     ∷ refusedWith triangle 2 3 3 24 1 3 0
@@ -179,7 +180,7 @@ pub record AllWorked : Type 0 where
   pub sequences-of-touching : outcome (lentFor two-touching) .sequences ≡ 1 ∷ 2 ∷ 1 ∷ 3 ∷ 0 ∷ 2 ∷ 0 ∷ []
   lists-of-pairs : outcome (lentFor three-pairs) .polygons ≡ 3 ∷ 3 ∷ 2 ∷ 2 ∷ 1 ∷ 1 ∷ []
   of-pairs : outcome (lentFor three-pairs) .answer ≡ Accepted 3 1 9
-  pub of-touching : outcome (lentFor two-touching) .answer ≡ Accepted 2 4 11
+  pub of-touching : outcome (lentFor two-touching) .answer ≡ Accepted 2 3 11
   passing-triangle : passing (drawingOf (lentFor one-triangle .list)) trianglePlace ≡ 2
 
 pub all-worked : AllWorked
@@ -229,12 +230,14 @@ unfolding
     answers.differ
     answers.uneven
     answers.checked
+    rows.lowestFree
     up.foundBelow
     up.hasTip
     up.asEdge
     up.find
-    up.lowestFree
+    up.chosen
     up.inUse
+    up.canOpen
     up.open-row
     up.write
     up.move
@@ -321,7 +324,7 @@ module _ (engine : Lent → Left Answer) (keeps : (l : Lent) → Promised l (eng
   fakes-the-sequences c f =
       let l = lentFor two-touching in
       let k = keeps l .outcome-is in
-      let faked = f l 2 4 11 (ap (λ x. x .answer) k ∙ all-worked .of-touching) in
+      let faked = f l 2 3 11 (ap (λ x. x .answer) k ∙ all-worked .of-touching) in
       let right : (e : ℕ) → getD (engine l .sequences) e 0 ≡ getD (1 ∷ 2 ∷ 1 ∷ 3 ∷ 0 ∷ 2 ∷ 0 ∷ []) e 0 = λ e. ap (λ x. getD (x .sequences) e 0) k ∙ ap (λ s. getD s e 0) (all-worked .sequences-of-touching) in
       let other : (e : ℕ) → getD (outcome l .polygons) e 0 ≡ getD (2 ∷ 2 ∷ 1 ∷ 2 ∷ 2 ∷ 1 ∷ 1 ∷ []) e 0 = λ e. ap (λ s. getD s e 0) (all-worked .lists-of-touching) in
       let a : 1 ≡ c = sym (right 0) ∙ faked 0 (λ h. omega (arith, h, other 0)) in
@@ -332,7 +335,7 @@ module _ (engine : Lent → Left Answer) (keeps : (l : Lent) → Promised l (eng
   invents-a-peak : (k : ℕ) → ((l : Lent) (p j m : ℕ) → engine l .answer ≡ Accepted p j m → j ≡ k) → ⊥
   invents-a-peak k f =
       let a : 1 ≡ k = f (lentFor one-triangle) 1 1 4 (ap (λ x. x .answer) (keeps (lentFor one-triangle) .outcome-is) ∙ all-worked .of-triangle) in
-      let b : 4 ≡ k = f (lentFor two-touching) 2 4 11 (ap (λ x. x .answer) (keeps (lentFor two-touching) .outcome-is) ∙ all-worked .of-touching) in
+      let b : 3 ≡ k = f (lentFor two-touching) 2 3 11 (ap (λ x. x .answer) (keeps (lentFor two-touching) .outcome-is) ∙ all-worked .of-touching) in
       omega arith
 
   -- one that gives C for the peak: two edges pass the triangle's places, and it needs one row

@@ -12,6 +12,7 @@ use Rattle.sheet.specs.Rank as ranks
 use Rattle.sheet.specs.Edges as edges
 use Rattle.sheet.specs.Kinds as kinds
 use Rattle.sheet.specs.Answers as answers
+use Rattle.steps.specs.Rows as rows
 use Rattle.steps.specs.SweepUp as up
 use Rattle.steps.specs.SweepDown as down
 use Rattle.steps.specs.Plain as plain
@@ -47,7 +48,7 @@ table =
     -- 01's triangle
     ∷ case "0 0 4 2 0\n4 2 1 5 0\n1 5 0 0 0\n" "accepted 1 1 4\n2 1 0\n1 1 2\n0 1 1\n"
     -- below 0, and records of two digits
-    ∷ case "-3 2 -1 6 7\n-1 6 -3 0 7\n-1 6 0 7 7\n-3 0 6 8 7\n6 8 -3 2 7\n0 7 -2 9 7\n-2 9 -1 6 7\n" "accepted 2 4 11\n6 1 0\n5 1 2\n4 2 0\n3 2 3\n2 1 1\n1 2 2\n0 2 1\n"
+    ∷ case "-3 2 -1 6 7\n-1 6 -3 0 7\n-1 6 0 7 7\n-3 0 6 8 7\n6 8 -3 2 7\n0 7 -2 9 7\n-2 9 -1 6 7\n" "accepted 2 3 11\n6 1 0\n5 1 2\n4 2 0\n3 2 3\n2 1 1\n1 2 2\n0 2 1\n"
     -- two films that share both their sides: the last edge is the one that leaves the top of outline 1
     ∷ case "0 0 1 1 3\n1 1 0 0 255\n0 0 1 1 255\n1 1 0 0 3\n" "accepted 2 2 6\n3 1 0\n2 2 1\n1 2 0\n0 1 1\n"
     -- refused by the numbering: equal ends, a film past the range, which is tried before them, two films that do not meet
@@ -104,12 +105,14 @@ unfolding
     answers.differ
     answers.uneven
     answers.checked
+    rows.lowestFree
     up.foundBelow
     up.hasTip
     up.asEdge
     up.find
-    up.lowestFree
+    up.chosen
     up.inUse
+    up.canOpen
     up.open-row
     up.write
     up.move

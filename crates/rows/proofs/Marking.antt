@@ -16,9 +16,8 @@ use Rattle.steps.specs.declared.Side.{Side}
 use Rattle.steps.specs.declared.Side.the-variants.{Rising, Falling}
 use Rattle.steps.specs.Rows.{on, Row, Branch}
 use Rattle.steps.specs.Plain.{newRow, withBranch}
-use Rattle.steps.specs.SweepUp.{hasTip}
 use Rattle.rows.specs.declared.Place.{Place}
-use Rattle.rows.specs.Layout.{onFilm, filmPlaces, filmIn, HasRow, lookRow, openedIn, movedIn, finishedIn, freedIn}
+use Rattle.rows.specs.Layout.{onFilm, filmPlaces, filmIn, HasRow, lookRow, hasTipIn, openedIn, movedIn, finishedIn, freedIn}
 use Rattle.rows.specs.Marks.{slots, slotOf, startAt, markedIn, tipSlot, Marked}
 use Rattle.rows.proofs.Searching.{tip-parts}
 use Rattle.rows.proofs.Writing.{OnlyRow, other-row, opened-only, opened-here, moved-only, moved-here, finished-only, finished-here, freed-only, freed-here}
@@ -29,7 +28,7 @@ slot-there level side p = omega arith
 
 module _ (s : List ℤ) (r level : ℕ) (side : Side) (p : Place) where
   -- a row with a tip has it in the tip's slot
-  tip-slot : hasTip filmPlaces level side p (lookRow s r) ≡ true → tipSlot s r side ≡ slotOf level side p
+  tip-slot : hasTipIn s level side p r ≡ true → tipSlot s r side ≡ slotOf level side p
   unfolding slotOf filmPlaces
   tip-slot t =
       let h = tip-parts s level side p r t in
@@ -38,11 +37,11 @@ module _ (s : List ℤ) (r level : ℕ) (side : Side) (p : Place) where
       rw (h .0, place)
 
   pub none-before : {marks : List ℕ} {peak : ℕ} → Marked marks s peak → r < startAt marks (slotOf level side p) → r < peak →
-      hasTip filmPlaces level side p (lookRow s r) ≡ false
+      hasTipIn s level side p r ≡ false
   none-before {marks} M before below = ⊎-elim
       (λ t. let h : startAt marks (slotOf level side p) ≤ r = rw (tip-slot t) at (M .starts r below side) in absurd (omega (arith, h, before)))
       (λ f. f)
-      (true-or-false (hasTip filmPlaces level side p (lookRow s r)))
+      (true-or-false (hasTipIn s level side p r))
 
 length-marked : (marks : List ℕ) (i r : ℕ) → length (markedIn marks i r) ≡ length marks
 unfolding markedIn

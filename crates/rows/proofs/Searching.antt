@@ -20,10 +20,11 @@ use Rattle.laws.proofs.First.{first-is, first-holds}
 use Rattle.laws.proofs.Tests.{not-not}
 use Rattle.steps.specs.declared.Side.{Side}
 use Rattle.steps.specs.declared.Found.the-variants.{At, Nothing}
-use Rattle.steps.specs.Rows.{on}
+use Rattle.steps.specs.Rows.{on, lowestFree}
 use Rattle.steps.specs.SweepUp.{foundBelow, hasTip}
+use Rattle.steps.proofs.Alone.{Alone}
 use Rattle.rows.specs.declared.Place.{Place}
-use Rattle.rows.specs.Layout.{filmPlaces, HasRow, lookRow}
+use Rattle.rows.specs.Layout.{filmPlaces, HasRow, lookRow, hasTipIn, rowSlice}
 use Rattle.steps.specs.Swept.{numbersPerRow}
 
 -- a search that stops at m, past which no number below n passes
@@ -52,7 +53,7 @@ found-is p n r e = by (ltb (first p n) n) refl e
     by false h q = let z : _≡_ {A = ℕ} 0 1 = cc in absurd (omega arith)
 
 module _ (s : List ℤ) where
-  past-free : (r : ℕ) → length s < numbersPerRow * r + 8 → lookRow s r .used ≡ false
+  pub past-free : (r : ℕ) → length s < numbersPerRow * r + 8 → lookRow s r .used ≡ false
   unfolding lookRow
   past-free r h = rw (lt-leb (numbersPerRow * r + numbersPerRow) (length s) h)
 
@@ -60,14 +61,14 @@ module _ (s : List ℤ) where
   has-row r e = ⊎-elim (λ h. absurd (not-both e (past-free r h))) (λ h. h) (lt-or-le (length s) (numbersPerRow * r + numbersPerRow))
 
   module _ (level : ℕ) (side : Side) (tip : Place) where
-    tip-in-use : (r : ℕ) → hasTip filmPlaces level side tip (lookRow s r) ≡ true → lookRow s r .used ≡ true
-    unfolding hasTip
+    tip-in-use : (r : ℕ) → hasTipIn s level side tip r ≡ true → lookRow s r .used ≡ true
+    unfolding hasTipIn
     tip-in-use r e = both-true _ _ e .0
 
     -- what a row that passes the test has
-    pub tip-parts : (r : ℕ) → hasTip filmPlaces level side tip (lookRow s r) ≡ true →
+    pub tip-parts : (r : ℕ) → hasTipIn s level side tip r ≡ true →
         (lookRow s r .level ≡ level) × (filmPlaces .same (on side (lookRow s r .branch) .tip) tip ≡ true)
-    unfolding hasTip
+    unfolding hasTipIn hasTip
     tip-parts r t =
         let row = lookRow s r in
         let here = filmPlaces .same (on side (row .branch) .tip) tip in
@@ -77,15 +78,15 @@ module _ (s : List ℤ) where
         (eqb-true _ _ (f .0), both-true (not (on side (row .branch) .finished)) here (f .1) .1)
 
     -- a row that is found is there
-    pub found-there : (peak r : ℕ) → foundBelow (λ k. hasTip filmPlaces level side tip (lookRow s k)) peak ≡ At r → HasRow s r
-    found-there peak r e = has-row r (tip-in-use r (found-is (λ k. hasTip filmPlaces level side tip (lookRow s k)) peak r e .1))
+    pub found-there : (peak r : ℕ) → foundBelow (hasTipIn s level side tip) peak ≡ At r → HasRow s r
+    found-there peak r e = has-row r (tip-in-use r (found-is (hasTipIn s level side tip) peak r e .1))
 
     -- and of the level
-    pub found-level : (peak r : ℕ) → foundBelow (λ k. hasTip filmPlaces level side tip (lookRow s k)) peak ≡ At r → lookRow s r .level ≡ level
-    found-level peak r e = tip-parts r (found-is (λ k. hasTip filmPlaces level side tip (lookRow s k)) peak r e .1) .0
+    pub found-level : (peak r : ℕ) → foundBelow (hasTipIn s level side tip) peak ≡ At r → lookRow s r .level ≡ level
+    found-level peak r e = tip-parts r (found-is (hasTipIn s level side tip) peak r e .1) .0
 
-    pub past-no-tip : (r : ℕ) → length s < numbersPerRow * r + 8 → hasTip filmPlaces level side tip (lookRow s r) ≡ false
-    unfolding hasTip
+    pub past-no-tip : (r : ℕ) → length s < numbersPerRow * r + 8 → hasTipIn s level side tip r ≡ false
+    unfolding hasTipIn
     past-no-tip r h = rw (past-free r h)
 
   in-use : (z : ℤ) → mag z < 2147483648 → (t : Bool) → leZ (toZ w32 (ofZ w32 z)) (pos 0) ≡ t → ltZ (pos 0) z ≡ not t
@@ -106,8 +107,15 @@ module _ (s : List ℤ) where
   -- a search that stops at m, which is the peak or past the slice
   module _ (peak m : ℕ) (stop : m ≡ min peak (length s / numbersPerRow)) where
     pub free-found : (r : ℕ) → r < m → not (lookRow s r .used) ≡ true → ((k : ℕ) → k < r → not (lookRow s k .used) ≡ false) →
-        r ≡ first (λ k. not (lookRow s k .used)) peak
+        r ≡ lowestFree lookRow s peak
+    unfolding lowestFree
     free-found r l t least = first-is (λ k. not (lookRow s k .used)) peak r (omega arith) (λ _. t) least
 
-    pub all-in-use : ((k : ℕ) → k < m → not (lookRow s k .used) ≡ false) → m ≡ first (λ k. not (lookRow s k .used)) peak
+    pub all-in-use : ((k : ℕ) → k < m → not (lookRow s k .used) ≡ false) → m ≡ lowestFree lookRow s peak
+    unfolding lowestFree
     all-in-use least = first-is (λ k. not (lookRow s k .used)) peak m (omega arith) (λ h. ap not (past-free m (omega arith))) least
+
+-- the rows of a slice are those of a sheet alone
+pub slice-alone : Alone rowSlice
+unfolding rowSlice
+slice-alone = record { mine-is = λ s r. refl; choose-is = λ s k. refl }

@@ -1,4 +1,4 @@
--- The test of a tip, number by number: a row that the slice has passes `hasTip` where its tip is at the place, its branch's length number is not below
+-- The test of a tip, number by number: a row that the slice has passes `hasTipIn` where its tip is at the place, its branch's length number is not below
 -- 0, and its first number is the level and 1. The code leaves at the first of these that fails, so each way out decides the whole test.
 use mathlib.Core.Path.{_≡_, refl, sym, ap, _∙_}
 use mathlib.Core.Bool.{Bool, true, false, not, _&&_}
@@ -21,7 +21,7 @@ use Rattle.steps.specs.declared.Side.{Side}
 use Rattle.steps.specs.declared.Side.the-variants.{Rising, Falling}
 use Rattle.steps.specs.SweepUp.{hasTip}
 use Rattle.rows.specs.declared.Place.{Place}
-use Rattle.rows.specs.Layout.{filmPlaces, filmIn, HasRow, branchAt, levelIn, lookBranch, lookRow}
+use Rattle.rows.specs.Layout.{filmPlaces, filmIn, HasRow, branchAt, levelIn, lookBranch, lookRow, hasTipIn}
 use Rattle.rows.proofs.Signs.{plain-read, tested}
 use Rattle.steps.specs.Swept.{numbersPerRow}
 
@@ -48,16 +48,16 @@ module _ (s : List ℤ) (r level : ℕ) (side : Side) (tip : Place) (has : HasRo
   byNumbers b =
       sameZ (getD s (numbersPerRow * r) (pos 0)) (pos (level + 1)) && (nonNeg (getD s (b + 2) (pos 0)) && (sameZ (filmIn s r) (tip .film) && isSame (record { x = getD s b (pos 0); y = getD s (b + 1) (pos 0) }) (tip .point)))
 
-  tip-test : (x : Side) → hasTip filmPlaces level x tip (lookRow s r) ≡ byNumbers (branchAt x r)
-  unfolding hasTip filmPlaces lookRow lookBranch byNumbers
+  tip-test : (x : Side) → hasTipIn s level x tip r ≡ byNumbers (branchAt x r)
+  unfolding hasTipIn hasTip filmPlaces lookRow lookBranch byNumbers
   tip-test Rising = rw (le-leb (numbersPerRow * r + numbersPerRow) (length s) has) (simp (not-not, and-assoc, level-number))
   tip-test Falling = rw (le-leb (numbersPerRow * r + numbersPerRow) (length s) has) (simp (not-not, and-assoc, level-number))
 
   module _ (b : ℕ) (at : b ≡ branchAt side r) where
-    test-at : hasTip filmPlaces level side tip (lookRow s r) ≡ byNumbers b
+    test-at : hasTipIn s level side tip r ≡ byNumbers b
     test-at = tip-test side ∙ ap byNumbers (sym at)
 
-    pub other-tip : isSame (record { x = getD s b (pos 0); y = getD s (b + 1) (pos 0) }) (tip .point) ≡ false → false ≡ hasTip filmPlaces level side tip (lookRow s r)
+    pub other-tip : isSame (record { x = getD s b (pos 0); y = getD s (b + 1) (pos 0) }) (tip .point) ≡ false → false ≡ hasTipIn s level side tip r
     unfolding byNumbers
     other-tip e = rw (test-at, e) (sym (simp and-false))
 
@@ -65,19 +65,19 @@ module _ (s : List ℤ) (r level : ℕ) (side : Side) (tip : Place) (has : HasRo
       sign : (t : Bool) → ltZ (toZ w32 (ofZ w32 (getD s (b + 2) (pos 0)))) (pos 0) ≡ t → nonNeg (getD s (b + 2) (pos 0)) ≡ not t
       sign t h = sym (not-not _) ∙ ap not (tested (getD s (b + 2) (pos 0)) f h)
 
-      pub finished-there : ltZ (toZ w32 (ofZ w32 (getD s (b + 2) (pos 0)))) (pos 0) ≡ true → false ≡ hasTip filmPlaces level side tip (lookRow s r)
+      pub finished-there : ltZ (toZ w32 (ofZ w32 (getD s (b + 2) (pos 0)))) (pos 0) ≡ true → false ≡ hasTipIn s level side tip r
       unfolding byNumbers
       finished-there h = rw (test-at, sign true h) (sym (simp and-false))
 
       pub other-film : mag (filmIn s r) < 2147483648 → mag (tip .film) < 2147483648 → eqb (ofZ w32 (filmIn s r)) (ofZ w32 (tip .film)) ≡ false →
-          false ≡ hasTip filmPlaces level side tip (lookRow s r)
+          false ≡ hasTipIn s level side tip r
       unfolding byNumbers
       other-film fr ft e = rw (test-at, sym (bits-sameZ (filmIn s r) (tip .film) fr ft) ∙ e) (sym (simp and-false))
 
       pub level-decides : level < 2147483647 → mag (getD s (numbersPerRow * r) (pos 0)) < 2147483648 →
           mag (filmIn s r) < 2147483648 → mag (tip .film) < 2147483648 → eqb (ofZ w32 (filmIn s r)) (ofZ w32 (tip .film)) ≡ true →
           isSame (record { x = getD s b (pos 0); y = getD s (b + 1) (pos 0) }) (tip .point) ≡ true → ltZ (toZ w32 (ofZ w32 (getD s (b + 2) (pos 0)))) (pos 0) ≡ false →
-          eqb (ofZ w32 (getD s (numbersPerRow * r) (pos 0))) (ofZ w32 (toZ w32 level +ℤ pos 1)) ≡ hasTip filmPlaces level side tip (lookRow s r)
+          eqb (ofZ w32 (getD s (numbersPerRow * r) (pos 0))) (ofZ w32 (toZ w32 level +ℤ pos 1)) ≡ hasTipIn s level side tip r
       unfolding byNumbers
       level-decides hl f0 fr ft ef e h =
           rw (test-at, sign false h, sym (bits-sameZ (filmIn s r) (tip .film) fr ft) ∙ ef, e, and-true, mark-is level hl) (bits-sameZ (getD s (numbersPerRow * r) (pos 0)) (pos (level + 1)) f0 (omega arith))

@@ -2,7 +2,7 @@
 -- in a free one, which so keeps the level that it had. Numbers 1, 2, 3 are x, y and length of the rising branch, numbers 4, 5, 6 those of the falling
 -- one, number 7 is the film of both. A length below 0 is that of a finished branch: negsuc n, which is -1 - n, for the length n.
 use Prim.Native.Nat.{ℕ, zero, suc, _+_, _-_, _*_, _≤_}
-use mathlib.Core.Bool.{not, _&&_}
+use mathlib.Core.Bool.{Bool, not, _&&_}
 use mathlib.Core.List.{List, [], _∷_}
 use lib.Dec.{leb}
 use lib.IntN.{ℤ, pos, negsuc}
@@ -13,7 +13,8 @@ use Rattle.sheet.specs.declared.Point.{Point}
 use Rattle.sheet.specs.Points.{sameZ, isSame, isBelow}
 use Rattle.steps.specs.declared.Side.{Side}
 use Rattle.steps.specs.declared.Side.the-variants.{Rising, Falling}
-use Rattle.steps.specs.Rows.{Branch, Row, Places, Table}
+use Rattle.steps.specs.Rows.{Branch, Row, Places, Table, lowestFree}
+use Rattle.steps.specs.SweepUp.{hasTip}
 use Rattle.steps.specs.Swept.{numbersPerRow}
 use Rattle.rows.specs.declared.Place.{Place}
 
@@ -64,6 +65,10 @@ lookRow s r =
       branch = record { rising = lookBranch s (filmIn s r) (branchAt Rising r); falling = lookBranch s (filmIn s r) (branchAt Falling r) };
     }
 
+-- row r is in use and has such a tip
+unfoldable pub hasTipIn : List ℤ → ℕ → Side → Place → ℕ → Bool
+hasTipIn s level side tip r = lookRow s r .used && hasTip filmPlaces level side tip (lookRow s r)
+
 unfoldable pub openedIn : List ℤ → ℕ → ℕ → Place → List ℤ
 openedIn s r level p =
     sets s (numbersPerRow * r) (pos (level + 1) ∷ p .point .x ∷ p .point .y ∷ pos 0 ∷ p .point .x ∷ p .point .y ∷ pos 0 ∷ p .film ∷ [])
@@ -78,5 +83,15 @@ finishedIn s r side = set s (branchAt side r + 2) (negsuc (mag (getD s (branchAt
 unfoldable pub freedIn : List ℤ → ℕ → List ℤ
 freedIn s r = set s (numbersPerRow * r) (freedNumber (getD s (numbersPerRow * r) (pos 0)))
 
+-- a slice is the table of one sheet: every row in use is its own, and the lowest free one is opened
 unfoldable pub rowSlice : Table Place (List ℤ)
-rowSlice = record { look = lookRow; opened = openedIn; moved = movedIn; finished = finishedIn; freed = freedIn }
+rowSlice =
+    record {
+      look = lookRow;
+      mine = λ s r. lookRow s r .used;
+      choose = lowestFree lookRow;
+      opened = openedIn;
+      moved = movedIn;
+      finished = finishedIn;
+      freed = freedIn;
+    }

@@ -7,16 +7,14 @@ use sheet::Point;
 use steps::Found;
 use steps::Side;
 ghost use mathlib.Core.Path.{_≡_};
-ghost use mathlib.Core.Bool.{not};
 ghost use Prim.Native.Nat.{_+_, _<_};
 ghost use lib.IntN.{pos, negsuc};
 ghost use lib.ListN.{length, replicate};
 ghost use lib.Signed.{mag};
-ghost use Rattle.laws.specs.Counting.{first};
 ghost use Rattle.sheet.specs.Points.{isSame};
-ghost use Rattle.steps.specs.Rows.{on};
-ghost use Rattle.steps.specs.SweepUp.{foundBelow, hasTip, bothFinished};
-ghost use Rattle.rows.specs.Layout.{filmPlaces, HasRow, branchAt, freedNumber, lookRow, openedIn, movedIn, finishedIn, freedIn};
+ghost use Rattle.steps.specs.Rows.{on, lowestFree};
+ghost use Rattle.steps.specs.SweepUp.{foundBelow, bothFinished};
+ghost use Rattle.rows.specs.Layout.{HasRow, branchAt, freedNumber, lookRow, hasTipIn, openedIn, movedIn, finishedIn, freedIn};
 ghost use Rattle.steps.specs.Swept.{rowsIn};
 ghost use Rattle.rows.specs.Marks.{Marked};
 
@@ -59,11 +57,11 @@ fn is_at(x: i32, y: i32, point: Point) -> bool
     (y == point_y) & (x == point_x)
 }
 
-// Whether a row is of the level, and its branch on the side is unfinished with its tip at the place. The point is looked at first: level, film and finished
-// mark change from row to row, the point is nearly always another one, so that the way past a row can be foreseen.
+// Whether a row is in use and of the level, and its branch on the side is unfinished with its tip at the place. The point is looked at first: level, film
+// and finished mark change from row to row, the point is nearly always another one, so that the way past a row can be foreseen.
 fn has_tip(rows: &[i32], r: usize, level: u32, side: Side, tip: Place) -> bool
     requires { ⌜ HasRow (now rows) r × (level < 2147483647) ⌝ }
-    ensures { λ t. ⌜ t ≡ hasTip filmPlaces level side tip (lookRow (now (rows .entry)) r) ⌝ }
+    ensures { λ t. ⌜ t ≡ hasTipIn (now (rows .entry)) level side tip r ⌝ }
 {
     let b = branch_at(rows, r, side);
     if !is_at(rows[b], rows[b + 1], tip.point) {
@@ -81,7 +79,7 @@ fn has_tip(rows: &[i32], r: usize, level: u32, side: Side, tip: Place) -> bool
 // The first row below the peak with such a tip. Its mark says where to start.
 pub fn find(rows: &[i32], marks: &[u8], peak: usize, level: u32, side: Side, tip: Place) -> Found
     requires { ⌜ (level < 2147483647) × Marked (now marks) (now rows) peak ⌝ }
-    ensures { λ f. ⌜ f ≡ foundBelow (λ r. hasTip filmPlaces level side tip (lookRow (now (rows .entry)) r)) peak ⌝ }
+    ensures { λ f. ⌜ f ≡ foundBelow (hasTipIn (now (rows .entry)) level side tip) peak ⌝ }
 {
     let n = laws::lower_of(peak, rows.len() / NUMBERS);
     let mut r = marks::start(marks, level, side, tip);
@@ -96,7 +94,7 @@ pub fn find(rows: &[i32], marks: &[u8], peak: usize, level: u32, side: Side, tip
 
 // The lowest free row below the peak, or the peak where all are in use; the number of rows where the peak is past it.
 pub fn lowest_free(rows: &[i32], peak: usize) -> usize
-    ensures { λ f. ⌜ f ≡ first (λ r. not (lookRow (now (rows .entry)) r .used)) peak ⌝ }
+    ensures { λ f. ⌜ f ≡ lowestFree lookRow (now (rows .entry)) peak ⌝ }
 {
     let n = laws::lower_of(peak, rows.len() / NUMBERS);
     let mut r: usize = 0;

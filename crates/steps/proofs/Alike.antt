@@ -12,18 +12,18 @@ use lib.IntN.{ℤ, pos}
 use borrow.Author.Tests.{ltb-true, lt-ltb, le-ltb}
 use Rattle.laws.proofs.Deciding.{lt-or-le, not-both, both-true}
 use Rattle.laws.specs.Counting.{count, first}
-use Rattle.laws.proofs.First.{first-le, first-least, first-none, first-holds}
+use Rattle.laws.proofs.First.{first-least, first-none, first-holds}
 use Rattle.laws.proofs.Further.{first-further, first-no-further, count-further}
-use Rattle.laws.proofs.Lowest.{count-by-lowest}
 use Rattle.steps.specs.declared.Side.{Side}
 use Rattle.steps.specs.declared.Side.the-variants.{Rising, Falling}
 use Rattle.steps.specs.declared.Found.{Found}
 use Rattle.steps.specs.declared.Found.the-variants.{At, Nothing}
 use Rattle.steps.specs.declared.End.{End}
 use Rattle.steps.specs.declared.End.the-variants.{Done, NoFreeRow, Overrun}
-use Rattle.steps.specs.Rows.{otherSide, on, Branch, Row, Chain, inRow, closing, Record, LevelEdge, Room}
+use Rattle.steps.specs.Rows.{otherSide, on, Branch, Row, Chain, inRow, closing, Record, LevelEdge, Room, lowestFree}
 use Rattle.steps.specs.SweepUp as up
 use Rattle.steps.specs.SweepUp.{State, Sweep, hasTip, asEdge, bottom, top, sideOf, longer, chainRecord, foundBelow, mostLength, levels}
+use Rattle.steps.proofs.Alone.{Alone, opened-name, chosen-up-to}
 
 -- going on after two treatments that ended alike
 after-both : {A A′ : Type 0} (R : A → A′ → Type 0) {u u′ : End} → u ≡ u′ → {x y : A} {x′ y′ : A′} → R x x′ → (u ≡ Done → R y y′) → R (up.afterDone u x y) (up.afterDone u′ x′ y′)
@@ -81,7 +81,7 @@ pub record SmallRecord (most : ℕ) (entry : Record) : Type 0 where
 
 -- The rooms match: R relates places, Rows relates tables in their first k rows, Kept journals in their first k records. Names up to `most` are kept.
 -- The second room is looked at as far as `looked` from the start; rows that far which are not among the first k are not in use. A tip is moved only to a
--- place of the row's film.
+-- place of the row's film. Both are rooms of a sheet alone.
 pub record Match {P T J P′ T′ J′ : Type 0} (room : Room P T J) (room′ : Room P′ T′ J′) (R : P → P′ → Type 0) (film : P → ℤ) (Rows : ℕ → T → T′ → Type 0) (Kept : ℕ → J → J′ → Type 0) (most looked : ℕ) : Type 0 where
   pub same-film : {p q : P} → room .places .same p q ≡ true → film p ≡ film q
   pub row-film : (t : T) (r : ℕ) → film (room .table .look t r .branch .falling .tip) ≡ film (room .table .look t r .branch .rising .tip)
@@ -95,7 +95,10 @@ pub record Match {P T J P′ T′ J′ : Type 0} (room : Room P T J) (room′ : 
   pub finished : {k : ℕ} {t : T} {t′ : T′} → Rows k t t′ → (r : ℕ) (s : Side) → r < k → Rows k (room .table .finished t r s) (room′ .table .finished t′ r s)
   pub freed : {k : ℕ} {t : T} {t′ : T′} → Rows k t t′ → (r : ℕ) → r < k → Rows k (room .table .freed t r) (room′ .table .freed t′ r)
   pub written : {j : J} {j′ : J′} {k : ℕ} {entry : Record} → Kept k j j′ → k < room .records → SmallRecord most entry → Kept (k + 1) (room .journal .written j k entry) (room′ .journal .written j′ k entry)
+  pub alone : Alone (room .table)
+  pub alone′ : Alone (room′ .table)
   pub rows : room .rows ≡ room′ .rows
+  pub share : room .share ≡ room′ .share
   pub records : room .records ≡ room′ .records
   pub names : room .records ≤ most
 
@@ -135,30 +138,45 @@ module _ {P T J P′ T′ J′ : Type 0} {room : Room P T J} {room′ : Room P�
     look-alike : (r : ℕ) → r < s .reach → AlikeRow R (up.look room s r) (up.look room′ s′ r)
     look-alike r l = M .look (A .rows) r l
 
+    mine-alike : (r : ℕ) → r < s .reach → room .table .mine (s .rows) r ≡ room′ .table .mine (s′ .rows) r
+    mine-alike r l = M .alone .mine-is (s .rows) r ∙ look-alike r l .used ∙ sym (M .alone′ .mine-is (s′ .rows) r)
+
+    not-mine : (r : ℕ) → s .reach ≤ r → r < looked → room′ .table .mine (s′ .rows) r ≡ false
+    not-mine r a b = M .alone′ .mine-is (s′ .rows) r ∙ M .unopened (A .rows) r a b
+
     tip-alike : (level : ℕ) (side : Side) {p : P} {p′ : P′} → R p p′ → (r : ℕ) → r < s .reach → hasTip (room .places) level side p (up.look room s r) ≡ hasTip (room′ .places) level side p′ (up.look room′ s′ r)
     unfolding hasTip
     tip-alike level side h r l =
         let a = look-alike r l in
         let b = a .branch side in
-        rw (a .used, a .level, b .finished, M .same (b .tip) h)
+        rw (a .level, b .finished, M .same (b .tip) h)
 
     find-alike : (level : ℕ) (side : Side) {p : P} {p′ : P′} → R p p′ → up.find room s level side p ≡ up.find room′ s′ level side p′
-    unfolding up.find hasTip
+    unfolding up.find
     find-alike level side {p} {p′} h =
-        found-same (λ r. hasTip (room .places) level side p (up.look room s r)) (λ r. hasTip (room′ .places) level side p′ (up.look room′ s′ r)) (s .reach) looked (tip-alike level side h) (λ r a b. ap (λ t. t && (eqb (up.look room′ s′ r .level) level && (not (on side (up.look room′ s′ r .branch) .finished) && room′ .places .same (on side (up.look room′ s′ r .branch) .tip) p′))) (M .unopened (A .rows) r a b))
-        ∙ ap (foundBelow (λ r. hasTip (room′ .places) level side p′ (up.look room′ s′ r))) (sym (A .reach))
+        found-same (λ r. room .table .mine (s .rows) r && hasTip (room .places) level side p (up.look room s r)) there (s .reach) looked (λ r l i. mine-alike r l i && tip-alike level side h r l i) (λ r a b. ap (λ t. t && hasTip (room′ .places) level side p′ (up.look room′ s′ r)) (not-mine r a b))
+        ∙ ap (foundBelow there) (sym (A .reach))
+      where
+        there : ℕ → Bool
+        there r = room′ .table .mine (s′ .rows) r && hasTip (room′ .places) level side p′ (up.look room′ s′ r)
 
-    lowest-alike : up.lowestFree room s ≡ up.lowestFree room′ s′
-    unfolding up.lowestFree
-    lowest-alike =
-        first-further (λ r. not (up.look room s r .used)) (λ r. not (up.look room′ s′ r .used)) (s .reach) looked (λ r l. ap not (look-alike r l .used)) (λ r a b. ap not (M .unopened (A .rows) r a b))
+    chosen-alike : up.chosen room s ≡ up.chosen room′ s′
+    unfolding up.chosen lowestFree
+    chosen-alike =
+        M .alone .choose-is (s .rows) (s .reach)
+        ∙ first-further (λ r. not (up.look room s r .used)) (λ r. not (up.look room′ s′ r .used)) (s .reach) looked (λ r l. ap not (look-alike r l .used)) (λ r a b. ap not (M .unopened (A .rows) r a b))
         ∙ ap (first (λ r. not (up.look room′ s′ r .used))) (sym (A .reach))
+        ∙ sym (M .alone′ .choose-is (s′ .rows) (s′ .reach))
 
     in-use-alike : up.inUse room s ≡ up.inUse room′ s′
     unfolding up.inUse
     in-use-alike =
-        count-further (λ r. up.look room s r .used) (λ r. up.look room′ s′ r .used) (s .reach) looked (λ r l. look-alike r l .used) (λ r a b. M .unopened (A .rows) r a b)
-        ∙ ap (count (λ r. up.look room′ s′ r .used)) (sym (A .reach))
+        count-further (room .table .mine (s .rows)) (room′ .table .mine (s′ .rows)) (s .reach) looked mine-alike not-mine
+        ∙ ap (count (room′ .table .mine (s′ .rows))) (sym (A .reach))
+
+    can-open-alike : up.canOpen room s ≡ up.canOpen room′ s′
+    unfolding up.canOpen
+    can-open-alike = λ i. ltb (in-use-alike i) (M .share i) && ltb (chosen-alike i) (M .rows i)
 
   -- the same states with other rows and another end
   changed : {d d′ k k′ : ℕ} {s : State T J} {s′ : State T′ J′} {t : T} {t′ : T′} {x x′ : End} → Rows (s .reach) t t′ → x ≡ x′ → (x ≡ Done → s .reach ≤ s .records + d′) → k′ ≤ s .reach → Alike d k s s′ → Alike d′ k′ (up.ended x (up.withRows t s)) (up.ended x′ (up.withRows t′ s′))
@@ -186,40 +204,36 @@ module _ {P T J P′ T′ J′ : Type 0} {room : Room P T J} {room′ : Room P�
   end-early : {d k : ℕ} {s : State T J} {s′ : State T′ J′} (x : End) → (x ≡ Done → ⊥) → Alike d k s s′ → Alike 0 k (up.ended x s) (up.ended x s′)
   end-early x n A = changed (A .rows) refl (λ e. absurd (n e)) (A .since) A
 
-  opened-name : (s : State T J) → max (s .reach) (up.inUse room s + 1) ≡ max (s .reach) (up.lowestFree room s + 1)
-  unfolding up.inUse up.lowestFree
-  opened-name s = count-by-lowest (λ r. up.look room s r .used) (s .reach)
+  free-there : (s : State T J) → up.canOpen room s ≡ true → up.chosen room s < room .rows
+  unfolding up.canOpen
+  free-there s t = ltb-true (up.chosen room s) (room .rows) (both-true (ltb (up.inUse room s) (room .share)) _ t .1)
 
-  lowest-up-to : (s : State T J) → up.lowestFree room s ≤ s .reach
-  unfolding up.lowestFree
-  lowest-up-to s = first-le _ (s .reach)
-
-  open-alike : {k : ℕ} {s : State T J} {s′ : State T′ J′} (A : Alike 0 k s s′) (level : ℕ) {p : P} {p′ : P′} → R p p′ → s .end ≡ Done → up.lowestFree room s < room .rows → Alike 1 k (up.open-row room s (up.lowestFree room s) level p) (up.open-row room′ s′ (up.lowestFree room s) level p′)
+  open-alike : {k : ℕ} {s : State T J} {s′ : State T′ J′} (A : Alike 0 k s s′) (level : ℕ) {p : P} {p′ : P′} → R p p′ → s .end ≡ Done → up.chosen room s < room .rows → Alike 1 k (up.open-row room s (up.chosen room s) level p) (up.open-row room′ s′ (up.chosen room s) level p′)
   unfolding up.open-row
   open-alike {k} {s} {s′} A level {p} {p′} h done l =
       record {
-        rows = M .opened (A .rows) h (up.lowestFree room s) level (lowest-up-to s) l;
+        rows = M .opened (A .rows) h (up.chosen room s) level (chosen-up-to room (M .alone) s) l;
         journal = A .journal;
         records = A .records;
         reach = omega (arith, A .reach);
-        by-name = omega (arith, A .by-name, opened-name s);
+        by-name = omega (arith, A .by-name, opened-name room (M .alone) s);
         peak = λ i. max (A .peak i) (in-use-alike A i + 1);
         end = A .end;
         named = omega (arith, A .named, l);
         kept = A .kept;
-        little = λ e. omega (arith, A .little done, lowest-up-to s);
+        little = λ e. omega (arith, A .little done, chosen-up-to room (M .alone) s);
         since = omega (arith, A .since);
       }
 
   -- the opened row is within the new reach
-  opened-below : (s : State T J) (level : ℕ) (p : P) → up.lowestFree room s < up.open-row room s (up.lowestFree room s) level p .reach
+  opened-below : (s : State T J) (level : ℕ) (p : P) → up.chosen room s < up.open-row room s (up.chosen room s) level p .reach
   unfolding up.open-row
   opened-below s level p = omega arith
 
   -- and its tips are of the place's film
-  open-film : {k : ℕ} {s : State T J} {s′ : State T′ J′} → Alike 0 k s s′ → (level : ℕ) (p : P) (side : Side) → up.lowestFree room s < room .rows → film (on side (up.look room (up.open-row room s (up.lowestFree room s) level p) (up.lowestFree room s) .branch) .tip) ≡ film p
+  open-film : {k : ℕ} {s : State T J} {s′ : State T′ J′} → Alike 0 k s s′ → (level : ℕ) (p : P) (side : Side) → up.chosen room s < room .rows → film (on side (up.look room (up.open-row room s (up.chosen room s) level p) (up.chosen room s) .branch) .tip) ≡ film p
   unfolding up.open-row
-  open-film {s = s} A level p side l = M .opened-film (A .rows) (up.lowestFree room s) level p l side
+  open-film {s = s} A level p side l = M .opened-film (A .rows) (up.chosen room s) level p l side
 
   open-records : (s : State T J) (r level : ℕ) (p : P) → up.open-row room s r level p .records ≡ s .records
   unfolding up.open-row
@@ -338,21 +352,20 @@ module _ {P T J P′ T′ J′ : Type 0} {room : Room P T J} {room′ : Room P�
   tip-there : (level : ℕ) (side : Side) (p : P) (row : Row P) → hasTip (room .places) level side p row ≡ true → room .places .same (on side (row .branch) .tip) p ≡ true
   unfolding hasTip
   tip-there level side p row t =
-      let a = both-true (row .used) _ t .1 in
-      let b = both-true (eqb (row .level) level) _ a .1 in
+      let b = both-true (eqb (row .level) level) _ t .1 in
       both-true (not (on side (row .branch) .finished)) _ b .1
 
   found-tip : (s : State T J) (level : ℕ) (side : Side) (p : P) (q : ℕ) → up.find room s level side p ≡ At q → (q < s .reach) × (film (on side (up.look room s q .branch) .tip) ≡ film p)
   unfolding up.find
   found-tip s level side p q h =
       let w = found-below _ (s .reach) q h in
-      (w .0, M .same-film (tip-there level side p (up.look room s q) (w .1)))
+      (w .0, M .same-film (tip-there level side p (up.look room s q) (both-true (room .table .mine (s .rows) q) _ (w .1) .1)))
 
   found-small : {k : ℕ} {s : State T J} {s′ : State T′ J′} → Alike 0 k s s′ → s .end ≡ Done → (level : ℕ) (side : Side) (e : LevelEdge P) (q : ℕ) → up.meeting room s level side e ≡ At q → (q < s .reach) × (q ≤ most)
   unfolding up.meeting up.pickMeeting up.find
   found-small {k} {s} A done level side e q h = by (e .apart) h
     where
-      by : (t : Bool) → up.pickMeeting t (foundBelow (λ r. hasTip (room .places) level (otherSide side) (top side e) (up.look room s r)) (s .reach)) ≡ At q → (q < s .reach) × (q ≤ most)
+      by : (t : Bool) → up.pickMeeting t (foundBelow (λ r. room .table .mine (s .rows) r && hasTip (room .places) level (otherSide side) (top side e) (up.look room s r)) (s .reach)) ≡ At q → (q < s .reach) × (q ≤ most)
       by true u = let z : _≡_ {A = ℕ} 0 1 = cc in absurd (omega arith)
       by false u = let l = found-below _ (s .reach) q u .0 in (l, omega (arith, l, A .little done, A .kept, M .names))
 
@@ -372,11 +385,11 @@ module _ {P T J P′ T′ J′ : Type 0} {room : Room P T J} {room′ : Room P�
   -- the next level is treated alike
   module _ (next : (State T J → LevelEdge P → State T J)) (next′ : (State T′ J′ → LevelEdge P′ → State T′ J′)) (alike : (k : ℕ) (s : State T J) (s′ : State T′ J′) (e : LevelEdge P) (e′ : LevelEdge P′) → Alike 0 k s s′ → s .end ≡ Done → AlikeEdge R film most e e′ → Alike 0 k (next s e) (next′ s′ e′)) where
     pass-up-alike : {k : ℕ} {s : State T J} {s′ : State T′ J′} → Alike 0 k s s′ → s .end ≡ Done → (r : ℕ) → r < k → r ≤ most → Alike 0 k (up.passUp room next s r) (up.passUp room′ next′ s′ r)
-    unfolding up.passUp
+    unfolding up.passUp up.free
     pass-up-alike {k} {s} {s′} A done r l m =
         let a = M .look (A .rows) r (omega (arith, A .since)) in
         pick-alike _ _ (λ i. a .branch Rising .finished i && a .branch Falling .finished i)
-        (λ q. let B = alike k s s′ _ _ A done (edge-alike r m a (M .row-film (s .rows) r)) in after-alike B (λ u. free-alike B r (omega (arith, l, B .since))))
+        (λ q. alike k (up.free room s r) (up.free room′ s′ r) _ _ (free-alike A r (omega (arith, l, A .since))) done (edge-alike r m a (M .row-film (s .rows) r)))
         (λ q. A)
 
     pass-both-alike : {k : ℕ} {s : State T J} {s′ : State T′ J′} → Alike 0 k s s′ → s .end ≡ Done → (q r : ℕ) → q < k → q ≤ most → r < k → r ≤ most → Alike 0 k (up.passBoth room next s q r) (up.passBoth room′ next′ s′ q r)
@@ -408,22 +421,22 @@ module _ {P T J P′ T′ J′ : Type 0} {room : Room P T J} {room′ : Room P�
         let C = on-row-since A₁ level lv side h r l m v in
         weaken (omega arith) C (omega (arith, A .since, B .since, C .since))
 
-    -- step 1: the row found, or the lowest free one opened, or none
+    -- step 1: the row found, or a free one opened, or none
     in-chain-alike : {k : ℕ} {s : State T J} {s′ : State T′ J′} → Alike 0 k s s′ → s .end ≡ Done → (level : ℕ) → level ≤ levels → (side : Side) {e : LevelEdge P} {e′ : LevelEdge P′} → AlikeEdge R film most e e′ → (f : Found) → ((q : ℕ) → f ≡ At q → (q < s .reach) × (film (on side (up.look room s q .branch) .tip) ≡ film (bottom side e))) → Alike 0 k (up.inChain room next s level side e f) (up.inChain room′ next′ s′ level side e′ f)
     unfolding up.inChain
     in-chain-alike A done level lv side h (At r) g =
         let w = g r refl in
         on-row-alike (weaken (omega arith) A (A .since)) level lv side h r (w .0) (omega (arith, w .0, A .little done)) (w .1)
-    in-chain-alike {k} {s} {s′} A done level lv side {e} {e′} h Nothing g = rw (← lowest-alike A) (pick-alike (ltb low (room .rows)) (ltb low (room′ .rows)) (λ i. ltb low (M .rows i)) opens (λ u. none))
+    in-chain-alike {k} {s} {s′} A done level lv side {e} {e′} h Nothing g = rw (← chosen-alike A) (pick-alike (up.canOpen room s) (up.canOpen room′ s′) (can-open-alike A) opens (λ u. none))
       where
-        low : ℕ
-        low = up.lowestFree room s
+        free : ℕ
+        free = up.chosen room s
 
-        opens : ltb low (room .rows) ≡ true → Alike 0 k (up.onRow room next (up.open-row room s low level (bottom side e)) level side e low) (up.onRow room′ next′ (up.open-row room′ s′ low level (bottom side e′)) level side e′ low)
+        opens : up.canOpen room s ≡ true → Alike 0 k (up.onRow room next (up.open-row room s free level (bottom side e)) level side e free) (up.onRow room′ next′ (up.open-row room′ s′ free level (bottom side e′)) level side e′ free)
         opens t =
-            let l = ltb-true low (room .rows) t in
+            let l = free-there s t in
             let B = open-alike A level (bottom-alike side h) done l in
-            on-row-alike B level lv side h low (opened-below s level (bottom side e)) (omega (arith, lowest-up-to s, A .little done, open-records s low level (bottom side e))) (open-film A level (bottom side e) side l)
+            on-row-alike B level lv side h free (opened-below s level (bottom side e)) (omega (arith, chosen-up-to room (M .alone) s, A .little done, open-records s free level (bottom side e))) (open-film A level (bottom side e) side l)
 
         none : Alike 0 k (up.ended NoFreeRow s) (up.ended NoFreeRow s′)
         none = end-early NoFreeRow (λ x. let z : _≡_ {A = ℕ} 0 1 = cc in omega arith) A

@@ -1,4 +1,4 @@
--- What every sweep that looks as far as rows have been opened keeps within, in any room: the records stay within the journal's, the reach, which is the peak, within the records and the rows, the edge at which a
+-- What every sweep that looks as far as rows have been opened keeps within, in any room of a sheet alone: the records stay within the journal's, the reach, which is the peak, within the records and the rows, the edge at which a
 -- sweep up ends within the list, and a sweep down counts no more polygons than records. Running alike keeps the first two bounds, and a room runs like
 -- itself, whatever the names in the list are.
 use mathlib.Core.Path.{_≡_, refl}
@@ -13,6 +13,7 @@ use Rattle.steps.specs.Rows.{Chain, inRow, closing, Record, Row, LevelEd
 use Rattle.steps.specs.SweepUp.{State, Sweep, sweepUp, afterDone, treat, levels, start}
 use Rattle.steps.specs.SweepDown.{Tables, Reading, give, shifted, readRecord, sweepDown}
 use Rattle.steps.proofs.Alike.{AlikeRow, AlikeEdge, Match, start-alike, sweep-alike}
+use Rattle.steps.proofs.Alone.{Alone}
 
 -- a room matches itself
 row-self : {P : Type 0} (row : Row P) → AlikeRow (λ p q. p ≡ q) row row
@@ -22,8 +23,8 @@ row-self row = record { used = refl; level = refl; branch = λ s. record { tip =
 abbrev pub noFilm : {P : Type 0} → P → ℤ
 noFilm p = pos 0
 
-pub self : {P T J : Type 0} (room : Room P T J) (most : ℕ) → room .records ≤ most → Match room room (λ p q. p ≡ q) noFilm (λ k t t′. t ≡ t′) (λ k j j′. j ≡ j′) most 0
-self room most names =
+pub self : {P T J : Type 0} (room : Room P T J) → Alone (room .table) → (most : ℕ) → room .records ≤ most → Match room room (λ p q. p ≡ q) noFilm (λ k t t′. t ≡ t′) (λ k j j′. j ≡ j′) most 0
+self room alone most names =
     record {
       same-film = λ e. refl;
       row-film = λ t r. refl;
@@ -37,7 +38,10 @@ self room most names =
       finished = λ h r s l. λ i. room .table .finished (h i) r s;
       freed = λ h r l. λ i. room .table .freed (h i) r;
       written = λ {j} {j′} {k} {entry} h l m. λ i. room .journal .written (h i) k entry;
+      alone = alone;
+      alone′ = alone;
       rows = refl;
+      share = refl;
       records = refl;
       names = names;
     }
@@ -55,9 +59,9 @@ mostName room list n = room .records + largest (λ i. list i .name) n
 pub same-edges : {P T J : Type 0} (room : Room P T J) (list : ℕ → LevelEdge P) (n i : ℕ) → i < n → AlikeEdge (λ p q. p ≡ q) noFilm (mostName room list n) (list i) (list i)
 same-edges room list n i l = record { name = refl; small = omega (arith, largest-bound (λ k. list k .name) n i l); tail = refl; head = refl; one-film = refl; length = refl; apart = refl }
 
-pub sweep-within : {P T J : Type 0} (room : Room P T J) (list : ℕ → LevelEdge P) (n : ℕ) (t : T) (j : J) → Within room (sweepUp room list (start 0 t j) n .state)
-sweep-within room list n t j =
-    let M = self room (mostName room list n) (omega arith) in
+pub sweep-within : {P T J : Type 0} (room : Room P T J) → Alone (room .table) → (list : ℕ → LevelEdge P) (n : ℕ) (t : T) (j : J) → Within room (sweepUp room list (start 0 t j) n .state)
+sweep-within room alone list n t j =
+    let M = self room alone (mostName room list n) (omega arith) in
     let B = sweep-alike M list list n (same-edges room list n) (start-alike M refl refl) .state in
     record { kept = B .kept; named = B .named; little = λ e. omega (arith, B .little e); by-name = B .by-name }
 

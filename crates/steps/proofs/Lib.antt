@@ -1,5 +1,6 @@
--- What is shown of the steps: worked sheets, the peak by names, two rooms run alike, and the bounds that follow.
+-- What is shown of the steps: worked sheets, a sheet alone with its table, two rooms run alike, and the bounds that follow.
 pub mod Sheets
+pub mod Alone
 pub mod Alike
 pub mod AlikeDown
 pub mod Bounded

@@ -8,7 +8,8 @@ use borrow.Author.Tests.{ne-eqb}
 use Rattle.steps.specs.Rows.{on, Row, Record, LevelEdge, Places, Room}
 use Rattle.steps.specs.SweepUp.{Sweep, sweepUp, start}
 use Rattle.steps.specs.Plain.{put, newRow, withBranch, finishedBranch, freeRow, plainTable, plainJournal}
-use Rattle.steps.proofs.Alike.{Match, start-alike, sweep-alike}
+use Rattle.steps.proofs.Alike.{Match, AlikeSweep, start-alike, sweep-alike}
+use Rattle.steps.proofs.Alone.{plain-alone}
 use Rattle.steps.proofs.Bounded.{noFilm, self, mostName, same-edges}
 
 pub record SameRun {T J : Type 0} (w w′ : Sweep T J) : Type 0 where
@@ -21,7 +22,7 @@ pub record SameRun {T J : Type 0} (w w′ : Sweep T J) : Type 0 where
 
 module _ {P : Type 0} (places : Places P) (rows records : ℕ) where
   abbrev room : Room P (ℕ → Row P) (ℕ → Record)
-  room = record { places = places; table = plainTable; journal = plainJournal; rows = rows; records = records }
+  room = record { places = places; table = plainTable; journal = plainJournal; rows = rows; share = rows; records = records }
 
   -- the same table, in which the rows from k on are free
   record FreeFrom (k : ℕ) (t t′ : ℕ → Row P) : Type 0 where
@@ -35,7 +36,7 @@ module _ {P : Type 0} (places : Places P) (rows records : ℕ) where
   further : (most : ℕ) → records ≤ most → Match room room (λ p q. p ≡ q) noFilm FreeFrom (λ k j j′. j ≡ j′) most rows
   unfolding plainTable
   further most names =
-      let S = self room most names in
+      let S = self room plain-alone most names in
       record {
         same-film = S .same-film;
         row-film = S .row-film;
@@ -49,14 +50,24 @@ module _ {P : Type 0} (places : Places P) (rows records : ℕ) where
         finished = λ {t′ = t′} F r s l. record { same = S .finished (F .same) r s l; free = still-free F r (withBranch (t′ r) s (finishedBranch (on s (t′ r .branch)))) l (omega arith) };
         freed = λ {t′ = t′} F r l. record { same = S .freed (F .same) r l; free = still-free F r (freeRow (t′ r)) l (omega arith) };
         written = S .written;
+        alone = plain-alone;
+        alone′ = plain-alone;
         rows = refl;
+        share = refl;
         records = refl;
         names = names;
       }
 
-  pub all-rows : (list : ℕ → LevelEdge P) (t : ℕ → Row P) (j : ℕ → Record) → ((r : ℕ) → r < rows → t r .used ≡ false) → (n : ℕ)
-      → SameRun (sweepUp room list (start 0 t j) n) (sweepUp room list (start rows t j) n)
-  all-rows list t j free n =
-      let M = further (mostName room list n) (omega arith) in
-      let B = sweep-alike M list list n (same-edges room list n) (start-alike M (record { same = refl; free = λ r l m. free r m }) refl) in
-      record { rows = B .state .rows .same; journal = B .state .journal; records = B .state .records; peak = B .state .peak; end = B .state .end; edge = B .edge }
+  module _ (list : ℕ → LevelEdge P) (t : ℕ → Row P) (j : ℕ → Record) (free : (r : ℕ) → r < rows → t r .used ≡ false) (n : ℕ) where
+    abbrev M : Match room room (λ p q. p ≡ q) noFilm FreeFrom (λ k j j′. j ≡ j′) (mostName room list n) rows
+    M = further (mostName room list n) (omega arith)
+
+    alike : AlikeSweep M (sweepUp room list (start 0 t j) n) (sweepUp room list (start rows t j) n)
+    alike = sweep-alike M list list n (same-edges room list n) (start-alike M (record { same = refl; free = λ r l m. free r m }) refl)
+
+    pub all-rows : SameRun (sweepUp room list (start 0 t j) n) (sweepUp room list (start rows t j) n)
+    all-rows = let B = alike in record { rows = B .state .rows .same; journal = B .state .journal; records = B .state .records; peak = B .state .peak; end = B .state .end; edge = B .edge }
+
+    -- the second goes on looking at all rows
+    pub all-reached : sweepUp room list (start rows t j) n .state .reach ≡ rows
+    all-reached = omega (arith, alike .state .reach, alike .state .named)

@@ -1,4 +1,4 @@
--- Sheets of document 01 and of several films worked by the steps: one table, one test that is computed over all of it.
+-- Sheets of document 01 and of several films worked by the steps, with the peaks that M-103 gives them: one table, one test that is computed over all of it.
 use Prim.Native.Nat.{ℕ, suc, _/_}
 use mathlib.Core.Path.{_≡_, refl}
 use mathlib.Core.Bool.{Bool, true, false, _&&_}
@@ -13,6 +13,7 @@ use Rattle.sheet.specs.Rank as ranks
 use Rattle.sheet.proofs.Drawn.{triangle, twoEdges, square, twoPeaks, touching, sharedSide, oneTop, oneTopAround, touchingFilms}
 use Rattle.steps.specs.declared.End.{End}
 use Rattle.steps.specs.declared.End.the-variants.{Done, NoFreeRow, Overrun}
+use Rattle.steps.specs.Rows as rows
 use Rattle.steps.specs.Rows.{Row, Record}
 use Rattle.steps.specs.SweepUp as up
 use Rattle.steps.specs.SweepUp.{State, Sweep}
@@ -81,13 +82,13 @@ sheets =
     ∷ accepted triangle 1 2 1 1 4 (1 ∷ 1 ∷ 1 ∷ 2 ∷ 1 ∷ 0 ∷ [])
     ∷ accepted twoEdges 1 1 1 1 3 (1 ∷ 1 ∷ 1 ∷ 0 ∷ [])
     ∷ accepted square 1 3 1 1 5 (1 ∷ 2 ∷ 1 ∷ 1 ∷ 1 ∷ 3 ∷ 1 ∷ 0 ∷ [])
-    ∷ accepted twoPeaks 3 3 1 3 7 (1 ∷ 1 ∷ 1 ∷ 2 ∷ 1 ∷ 3 ∷ 1 ∷ 0 ∷ [])
-    ∷ record { list = twoPeaks; rows = 2; end = NoFreeRow; edge = 3; polygons = 0; peak = 0; records = 0; pairs = [] }
-    ∷ accepted touching 4 6 2 4 11 (2 ∷ 1 ∷ 2 ∷ 2 ∷ 1 ∷ 1 ∷ 2 ∷ 3 ∷ 2 ∷ 0 ∷ 1 ∷ 2 ∷ 1 ∷ 0 ∷ [])
+    ∷ accepted twoPeaks 2 3 1 2 7 (1 ∷ 1 ∷ 1 ∷ 2 ∷ 1 ∷ 3 ∷ 1 ∷ 0 ∷ [])
+    ∷ record { list = twoPeaks; rows = 1; end = NoFreeRow; edge = 1; polygons = 0; peak = 0; records = 0; pairs = [] }
+    ∷ accepted touching 3 6 2 3 11 (2 ∷ 1 ∷ 2 ∷ 2 ∷ 1 ∷ 1 ∷ 2 ∷ 3 ∷ 2 ∷ 0 ∷ 1 ∷ 2 ∷ 1 ∷ 0 ∷ [])
     ∷ accepted sharedSide 2 7 2 2 10 (2 ∷ 2 ∷ 1 ∷ 2 ∷ 2 ∷ 1 ∷ 2 ∷ 3 ∷ 2 ∷ 0 ∷ 1 ∷ 1 ∷ 1 ∷ 3 ∷ 1 ∷ 0 ∷ [])
     ∷ accepted oneTop 1 3 2 1 6 (2 ∷ 1 ∷ 2 ∷ 0 ∷ 1 ∷ 1 ∷ 1 ∷ 0 ∷ [])
     ∷ accepted oneTopAround 2 3 2 2 6 (1 ∷ 1 ∷ 2 ∷ 1 ∷ 2 ∷ 0 ∷ 1 ∷ 0 ∷ [])
-    ∷ accepted touchingFilms 4 6 2 4 11 (2 ∷ 1 ∷ 2 ∷ 2 ∷ 1 ∷ 1 ∷ 2 ∷ 3 ∷ 2 ∷ 0 ∷ 1 ∷ 2 ∷ 1 ∷ 0 ∷ [])
+    ∷ accepted touchingFilms 3 6 2 3 11 (2 ∷ 1 ∷ 2 ∷ 2 ∷ 1 ∷ 1 ∷ 2 ∷ 3 ∷ 2 ∷ 0 ∷ 1 ∷ 2 ∷ 1 ∷ 0 ∷ [])
     ∷ []
 
 all-sheets-right : allRight sheets ≡ true
@@ -105,12 +106,14 @@ unfolding
     ranks.shift
     ranks.rank
     ranks.placeOn
+    rows.lowestFree
     up.foundBelow
     up.hasTip
     up.asEdge
     up.find
-    up.lowestFree
+    up.chosen
     up.inUse
+    up.canOpen
     up.open-row
     up.write
     up.move

@@ -25,7 +25,7 @@ module _ {P T J : Type 0} (room : Room P T J) (list : ℕ → LevelEdge P) (s : 
   unfolding sweepUp
   one-more n = refl
 
-  when-done : (n : ℕ) → to n .state .end ≡ Done → to (suc n) ≡ record { state = treated n; edge = n }
+  pub when-done : (n : ℕ) → to n .state .end ≡ Done → to (suc n) ≡ record { state = treated n; edge = n }
   when-done n d = one-more n ∙ ap (λ u. afterDone u (to n) (record { state = treated n; edge = n })) d
 
   when-stopped : (n : ℕ) → to n .state .end ≡ NoFreeRow → to (suc n) ≡ to n

@@ -3,7 +3,7 @@ use Prim.Native.Nat.{ℕ}
 use mathlib.Core.Bool.{true, false, cond}
 use lib.Dec.{eqb}
 use Rattle.steps.specs.declared.Side.{Side}
-use Rattle.steps.specs.Rows.{on, with, Branch, Row, Record, Table, Journal}
+use Rattle.steps.specs.Rows.{on, with, Branch, Row, Record, Table, Journal, lowestFree}
 use Rattle.steps.specs.SweepDown.{Pair, Tables}
 
 abbrev pub put : {A : Type 0} → (ℕ → A) → ℕ → A → ℕ → A
@@ -24,10 +24,13 @@ finishedBranch b = record { tip = b .tip; length = b .length; finished = true }
 abbrev pub freeRow : {P : Type 0} → Row P → Row P
 freeRow row = record { used = false; level = row .level; branch = row .branch }
 
+-- the table of a sheet alone: every row in use is mine, and the lowest free one is opened
 unfoldable pub plainTable : {P : Type 0} → Table P (ℕ → Row P)
 plainTable =
     record {
       look = λ t r. t r;
+      mine = λ t r. t r .used;
+      choose = lowestFree (λ t r. t r);
       opened = λ t r level p. put t r (newRow level p);
       moved = λ t r s p n. put t r (withBranch (t r) s (record { tip = p; length = n; finished = false }));
       finished = λ t r s. put t r (withBranch (t r) s (finishedBranch (on s (t r .branch))));

@@ -1,9 +1,10 @@
 -- Rows, records, and the two lent rooms that hold them (01, "The sweep up", first paragraph and the one on records).
 -- Places P, tables T and journals J are left open: the code has points and slices, the theory natural numbers and functions.
 use Prim.Native.Nat.{ℕ}
-use mathlib.Core.Bool.{Bool}
+use mathlib.Core.Bool.{Bool, not}
 use mathlib.Core.List.{List, [], _∷_}
 use lib.IntN.{ℤ, pos, negsuc}
+use Rattle.laws.specs.Counting.{first}
 use Rattle.steps.specs.declared.Side.{Side}
 use Rattle.steps.specs.declared.Side.the-variants.{Rising, Falling}
 
@@ -68,9 +69,12 @@ pub record Places (P : Type 0) : Type 0 where
   pub same : P → P → Bool
   pub below : P → P → Bool
 
--- a table of rows: what stands in a row, and the four things that are done to one
+-- a table of rows: what stands in a row, which rows are in use and mine, which free row is opened where rows have been opened so far, and the four things that
+-- are done to one
 pub record Table (P T : Type 0) : Type 0 where
   pub look : T → ℕ → Row P
+  pub mine : T → ℕ → Bool
+  pub choose : T → ℕ → ℕ
   pub opened : T → ℕ → ℕ → P → T
   pub moved : T → ℕ → Side → P → ℕ → T
   pub finished : T → ℕ → Side → T
@@ -81,10 +85,15 @@ pub record Journal (J : Type 0) : Type 0 where
   pub read : J → ℕ → Record
   pub written : J → ℕ → Record → J
 
--- all of it, with how many rows and records the rooms have
+-- the lowest free row: within the reach, or the one just past it
+unfoldable pub lowestFree : {P T : Type 0} → (T → ℕ → Row P) → T → ℕ → ℕ
+lowestFree look t reach = first (λ r. not (look t r .used)) reach
+
+-- all of it, with how many rows and records the rooms have, and how many rows I may have in use
 pub record Room (P T J : Type 0) : Type 0 where
   pub places : Places P
   pub table : Table P T
   pub journal : Journal J
   pub rows : ℕ
+  pub share : ℕ
   pub records : ℕ

@@ -1,6 +1,7 @@
--- The sweep up (01, "The sweep up"), step by step. An up edge works on the rising side of its row, a down edge on the falling side; everything is said
--- once, over the side. Rows are looked for within the reach: all the rows there are, as 01 has it, or as far as rows have been opened, which comes to the
--- same (proofs/Reaching.antt).
+-- The sweep up (01, "The sweep up", with M-103 of 02: a finished row is freed before it is passed up), step by step. An up edge works on the rising side of its
+-- row, a down edge on the falling side; everything is said once, over the side. Rows are looked for within the reach: all the rows there are, as 01 has it, or
+-- as far as rows have been opened, which comes to the same (proofs/Reaching.antt). Which rows are mine, which one is opened and how many I may have are the
+-- room's: a sheet alone has every row in use, the lowest free one and all rows.
 use Prim.Native.Nat.{ℕ, zero, suc, _+_, max}
 use mathlib.Core.Bool.{Bool, true, false, cond, not, _&&_}
 use lib.Dec.{eqb, ltb, leb}
@@ -77,7 +78,7 @@ module _ {P : Type 0} where
   -- the row is of the level, and its branch on the side is unfinished with its tip at the place
   unfoldable pub hasTip : Places P → ℕ → Side → P → Row P → Bool
   hasTip places level s p row =
-      row .used && (eqb (row .level) level && (not (on s (row .branch) .finished) && places .same (on s (row .branch) .tip) p))
+      eqb (row .level) level && (not (on s (row .branch) .finished) && places .same (on s (row .branch) .tip) p)
 
   abbrev pub bothFinished : Row P → Bool
   bothFinished row = row .branch .rising .finished && row .branch .falling .finished
@@ -91,17 +92,21 @@ module _ {P T J : Type 0} (room : Room P T J) where
   abbrev pub look : State T J → ℕ → Row P
   look s r = room .table .look (s .rows) r
 
-  -- step 1, and step 4 with the other side: the row found
+  -- step 1, and step 4 with the other side: the row found, one of mine
   unfoldable pub find : State T J → ℕ → Side → P → Found
-  find s level side p = foundBelow (λ r. hasTip (room .places) level side p (look s r)) (s .reach)
+  find s level side p = foundBelow (λ r. room .table .mine (s .rows) r && hasTip (room .places) level side p (look s r)) (s .reach)
 
-  -- the lowest free row: within the reach, or the one just past it
-  unfoldable pub lowestFree : State T J → ℕ
-  lowestFree s = first (λ r. not (look s r .used)) (s .reach)
+  -- the free row that would be opened
+  unfoldable pub chosen : State T J → ℕ
+  chosen s = room .table .choose (s .rows) (s .reach)
 
-  -- how many rows are in use now
+  -- how many rows I have in use now
   unfoldable pub inUse : State T J → ℕ
-  inUse s = count (λ r. look s r .used) (s .reach)
+  inUse s = count (room .table .mine (s .rows)) (s .reach)
+
+  -- whether a row may be opened: fewer are in use than I may have, and one is free
+  unfoldable pub canOpen : State T J → Bool
+  canOpen s = ltb (inUse s) (room .share) && ltb (chosen s) (room .rows)
 
   -- a row opened: both tips at the place, both lengths 0, both unfinished. The peak is the largest number of rows in use.
   unfoldable pub open-row : State T J → ℕ → ℕ → P → State T J
@@ -149,13 +154,9 @@ module _ {P T J : Type 0} (room : Room P T J) where
   unfoldable pub free : State T J → ℕ → State T J
   free s r = withRows (room .table .freed (s .rows) r) s
 
-  -- a row that was passed up is freed when its edge is treated
-  abbrev pub thenFree : State T J → ℕ → State T J
-  thenFree s r = afterDone (s .end) s (free s r)
-
-  -- a row with both branches finished is passed up and then freed; `next` is how an edge of the next level is treated
+  -- a row with both branches finished is freed and then passed up (M-103); `next` is how an edge of the next level is treated
   unfoldable pub passUp : (State T J → LevelEdge P → State T J) → State T J → ℕ → State T J
-  passUp next s r = cond (bothFinished (look s r)) (thenFree (next s (asEdge r (look s r))) r) s
+  passUp next s r = cond (bothFinished (look s r)) (next (free s r) (asEdge r (look s r))) s
 
   -- the found row q first, then this row r; once where they are one
   unfoldable pub passBoth : (State T J → LevelEdge P → State T J) → State T J → ℕ → ℕ → State T J
@@ -173,12 +174,12 @@ module _ {P T J : Type 0} (room : Room P T J) where
       afterDone (attach s level side e r .end) (attach s level side e r)
       (meet next (attach s level side e r) side r (meeting (attach s level side e r) level side e))
 
-  -- step 1 and what follows: the row found, or the lowest free row opened, or no row
+  -- step 1 and what follows: the row found, or a free row opened, or no row
   unfoldable pub inChain : (State T J → LevelEdge P → State T J) → State T J → ℕ → Side → LevelEdge P → Found → State T J
   inChain next s level side e (At r) = onRow next s level side e r
   inChain next s level side e Nothing =
-      cond (ltb (lowestFree s) (room .rows))
-      (onRow next (open-row s (lowestFree s) level (bottom side e)) level side e (lowestFree s))
+      cond (canOpen s)
+      (onRow next (open-row s (chosen s) level (bottom side e)) level side e (chosen s))
       (ended NoFreeRow s)
 
   unfoldable pub stepsOn : (State T J → LevelEdge P → State T J) → State T J → ℕ → Side → LevelEdge P → State T J

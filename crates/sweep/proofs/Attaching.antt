@@ -14,7 +14,7 @@ use Rattle.rows.specs.declared.Place.{Place}
 use Rattle.steps.specs.declared.Side.{Side}
 use Rattle.steps.specs.declared.Side.the-variants.{Rising, Falling}
 use Rattle.steps.specs.declared.End.the-variants.{Overrun}
-use Rattle.steps.specs.Rows.{otherSide, on, inRow, closing}
+use Rattle.steps.specs.Rows.{otherSide, on, inRow, closing, lowestFree}
 use Rattle.steps.specs.SweepUp as up
 use Rattle.laws.proofs.Lowest.{count-by-lowest}
 use Rattle.steps.specs.SweepUp.{mostLength}
@@ -93,8 +93,8 @@ module _ (a b : List ℤ) (s : Progress) (level : ℕ) (e : NamedEdge) where
       attach-done hr hl eb ea ep = rw (← is, lt-ltb (s .records) (recordsIn b) hr, le-leb (n + e .falling + e .rising) mostLength hl, ea, eb, ep)
 
 module _ (a b : List ℤ) (s : Progress) (r level : ℕ) (p : Place) where
-  pub opened : {a₁ : List ℤ} {q : Progress} → r ≡ up.lowestFree (lentRoom a b) (state a b s) → a₁ ≡ openedIn a r level p →
+  pub opened : {a₁ : List ℤ} {q : Progress} → r ≡ lowestFree lookRow a (s .peak) → a₁ ≡ openedIn a r level p →
       q ≡ record { records = s .records; peak = max (s .peak) (r + 1); end = s .end } →
       state a₁ b q ≡ up.open-row (lentRoom a b) (state a b s) r level p
-  unfolding up.open-row up.inUse up.lowestFree room rows.rowSlice
+  unfolding up.open-row up.inUse lowestFree room rows.rowSlice
   opened free ea eq = rw (ea, eq, free, count-by-lowest (λ k. lookRow a k .used) (s .peak))

@@ -10,7 +10,7 @@ use Rattle.laws.proofs.First.{first-le}
 use Rattle.rows.specs.declared.Place.{Place}
 use Rattle.steps.specs.declared.Side.{Side}
 use Rattle.steps.specs.declared.End.the-variants.{Overrun}
-use Rattle.steps.specs.Rows.{LevelEdge, closing}
+use Rattle.steps.specs.Rows.{LevelEdge, closing, lowestFree}
 use Rattle.steps.specs.SweepUp as up
 use Rattle.steps.specs.SweepUp.{State}
 use Rattle.rows.specs.Layout as rows
@@ -35,12 +35,12 @@ closing-peak a b s level e = by (ltb (s .records) (lentRoom a b .records))
     by true = refl
     by false = refl
 
-module _ (a b : List ℤ) (s : Progress) (r level : ℕ) (p : Place) where
-  -- the lowest free row is at most the peak
-  pub lowest-low : r ≡ up.lowestFree (lentRoom a b) (state a b s) → r ≤ s .peak
-  unfolding up.lowestFree room rows.rowSlice
-  lowest-low e = omega (arith, e, first-le (λ k. not (lookRow a k .used)) (s .peak))
+-- the lowest free row is at most the peak
+pub lowest-low : (a : List ℤ) (peak : ℕ) {r : ℕ} → r ≡ lowestFree lookRow a peak → r ≤ peak
+unfolding lowestFree
+lowest-low a peak e = omega (arith, e, first-le (λ k. not (lookRow a k .used)) peak)
 
+module _ (a b : List ℤ) (s : Progress) (r level : ℕ) (p : Place) where
   pub opened-level : {a₁ : List ℤ} {q : Progress} → HasRow a r → state a₁ b q ≡ up.open-row (lentRoom a b) (state a b s) r level p → lookRow a₁ r .level ≡ level
   unfolding up.open-row room rows.rowSlice
   opened-level {a₁} has e =

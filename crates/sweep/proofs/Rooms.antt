@@ -1,18 +1,25 @@
--- What the laws of the treatment share: slices that keep their lengths make one room, and what follows a treatment that is done or not.
+-- What the laws of the treatment share: slices that keep their lengths make one room, what follows a treatment that is done or not, and when a row may be
+-- opened: where the slice has the lowest free one. The steps ask too that fewer rows are in use than there are, which is then so: rows in use are rows of
+-- the slice, and this one is not in use.
 use mathlib.Core.Path.{_≡_, refl}
-use mathlib.Core.Bool.{true, false, not}
+use mathlib.Core.Bool.{true, false}
 use mathlib.Core.List.{List}
 use Prim.Native.Nat.{ℕ}
+use native.Mathlib.Omega.{arith}
+use lib.Dec.{ltb}
 use lib.IntN.{ℤ}
 use lib.ListN.{length}
-use Rattle.laws.specs.Counting.{first}
 use Rattle.laws.proofs.Deciding.{not-both}
 use Rattle.steps.specs.declared.End.{End}
 use Rattle.steps.specs.declared.End.the-variants.{Done, NoFreeRow, Overrun}
+use Rattle.steps.specs.Rows.{lowestFree}
 use Rattle.steps.specs.SweepUp as up
 use Rattle.steps.specs.SweepUp.{afterDone}
+use Rattle.steps.proofs.Alone as steps
+use Rattle.steps.specs.Swept.{rowsIn}
 use Rattle.rows.specs.Layout as rows
 use Rattle.rows.specs.Layout.{lookRow}
+use Rattle.rows.proofs.Searching.{past-free, slice-alone}
 use Rattle.sweep.specs.declared.Progress.{Progress}
 use Rattle.sweep.specs.Slices.{room, lentRoom, state, isDone}
 
@@ -30,8 +37,12 @@ module _ {A : Type 0} (s t : A) where
   goes-on NoFreeRow h = absurd (not-both h refl)
   goes-on Overrun h = absurd (not-both h refl)
 
--- the lowest free row on slices is the steps'
-pub lowest-is : (a : List ℤ) (s : Progress) {r : ℕ} → r ≡ first (λ k. not (lookRow a k .used)) (s .peak) → (b : List ℤ) →
-    r ≡ up.lowestFree (lentRoom a b) (state a b s)
-unfolding up.lowestFree room rows.rowSlice
-lowest-is a s e b = e
+-- the lowest free row
+module _ (a b : List ℤ) (s : Progress) {r : ℕ} (free : r ≡ lowestFree lookRow a (s .peak)) where
+  pub chosen-is : r ≡ up.chosen (lentRoom a b) (state a b s)
+  unfolding up.chosen room rows.rowSlice
+  chosen-is = free
+
+  pub can-open : up.canOpen (lentRoom a b) (state a b s) ≡ ltb r (rowsIn a)
+  unfolding room rows.rowSlice
+  can-open = rw chosen-is (steps.can-open (lentRoom a b) slice-alone (state a b s) refl (λ k l m. past-free a k (omega arith)))

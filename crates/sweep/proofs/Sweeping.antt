@@ -13,6 +13,7 @@ use Rattle.steps.specs.Rows.{LevelEdge}
 use Rattle.steps.specs.SweepUp as up
 use Rattle.steps.specs.SweepUp.{State, Sweep, start, levels}
 use Rattle.steps.proofs.Bounded.{sweep-within}
+use Rattle.rows.proofs.Searching.{slice-alone}
 use Rattle.sweep.specs.declared.Progress.{Progress}
 use Rattle.sweep.specs.declared.NamedEdge.{NamedEdge}
 use Rattle.sweep.specs.declared.Swept.{Swept}
@@ -43,4 +44,4 @@ module _ (a b : List ℤ) (list : ℕ → LevelEdge Place) where
   -- the records that are written are there
   pub records-there : (n : ℕ) {a₁ b₁ : List ℤ} (w : Swept) → swept a₁ b₁ w ≡ up.sweepUp (lentRoom a b) list (start 0 a b) n → numbersPerRecord * w .progress .records ≤ length b
   unfolding room
-  records-there n w e = omega (arith, sweep-within (lentRoom a b) list n a b .kept, ap (λ (x : Sweep (List ℤ) (List ℤ)). x .state .records) e)
+  records-there n w e = omega (arith, sweep-within (lentRoom a b) slice-alone list n a b .kept, ap (λ (x : Sweep (List ℤ) (List ℤ)). x .state .records) e)

@@ -1,7 +1,7 @@
 -- One law for each way out of the four functions that treat an edge: what the calls leave makes up the step. Rooms of slices that keep their lengths are
 -- one room, so a callee's room is the caller's.
 use mathlib.Core.Path.{_≡_, refl, sym, _∙_}
-use mathlib.Core.Bool.{Bool, true, false, not}
+use mathlib.Core.Bool.{Bool, true, false}
 use mathlib.Core.List.{List}
 use Prim.Native.Nat.{ℕ, zero, suc, _+_, _-_, _≤_, _<_}
 use native.Mathlib.Numerals.{add-one}
@@ -9,7 +9,6 @@ use native.Mathlib.Omega.{arith}
 use lib.IntN.{ℤ}
 use lib.ListN.{length}
 use borrow.Author.Tests.{lt-ltb, le-ltb, eq-eqb, ne-eqb}
-use Rattle.laws.specs.Counting.{first}
 use Rattle.sheet.specs.Points.{isSame}
 use Rattle.sheet.proofs.Signed.{sameZ-self}
 use Rattle.rows.specs.declared.Place.{Place}
@@ -17,36 +16,32 @@ use Rattle.steps.specs.declared.Side.{Side}
 use Rattle.steps.specs.declared.Found.{Found}
 use Rattle.steps.specs.declared.Found.the-variants.{At, Nothing}
 use Rattle.steps.specs.declared.End.the-variants.{NoFreeRow, Overrun}
-use Rattle.steps.specs.Rows.{otherSide, LevelEdge}
+use Rattle.steps.specs.Rows.{otherSide, LevelEdge, lowestFree}
 use Rattle.steps.specs.SweepUp as up
-use Rattle.steps.specs.SweepUp.{State, foundBelow, hasTip, bothFinished}
+use Rattle.steps.specs.SweepUp.{State, foundBelow, bothFinished}
 use Rattle.rows.specs.Layout as rows
-use Rattle.rows.specs.Layout.{filmPlaces, HasRow, lookRow, finishedIn, freedIn}
+use Rattle.rows.specs.Layout.{filmPlaces, HasRow, lookRow, hasTipIn, finishedIn, freedIn}
 use Rattle.rows.proofs.Searching.{found-there}
 use Rattle.steps.specs.Swept.{rowsIn}
 use Rattle.sweep.specs.declared.Progress.{Progress}
 use Rattle.sweep.specs.declared.NamedEdge.{NamedEdge}
 use Rattle.sweep.specs.Slices.{room, lentRoom, state, edgeOf, isDone}
-use Rattle.sweep.proofs.Rooms.{same-room, stops, goes-on, lowest-is}
+use Rattle.sweep.proofs.Rooms.{same-room, stops, goes-on, chosen-is, can-open}
 
 abbrev Next : Type 0
 Next = State (List ℤ) (List ℤ) → LevelEdge Place → State (List ℤ) (List ℤ)
 
 -- a row passed up
-module _ (a b : List ℤ) (next : Next) (s : Progress) (r : ℕ) {t : Bool} (h : t ≡ bothFinished (lookRow a r)) where
-  pub up-unfinished : t ≡ false → state a b s ≡ up.passUp (lentRoom a b) next (state a b s) r
+module _ (a b : List ℤ) (left level : ℕ) (s : Progress) (r : ℕ) {t : Bool} (h : t ≡ bothFinished (lookRow a r)) where
+  pub up-unfinished : t ≡ false → state a b s ≡ up.passUp (lentRoom a b) (up.treat (lentRoom a b) left level) (state a b s) r
   unfolding up.passUp room rows.rowSlice
   up-unfinished k = rw (← h, k)
 
-  module _ (k : t ≡ true) {e : NamedEdge} (g : edgeOf e ≡ up.asEdge r (lookRow a r)) {a₁ b₁ : List ℤ} {p : Progress}
-      (i : state a₁ b₁ p ≡ next (state a b s) (edgeOf e)) where
-    pub up-stopped : isDone (p .end) ≡ false → state a₁ b₁ p ≡ up.passUp (lentRoom a b) next (state a b s) r
-    unfolding up.passUp room rows.rowSlice
-    up-stopped d = rw (← h, k, ← g, ← i) (sym (stops _ _ (p .end) d))
-
-    pub up-freed : isDone (p .end) ≡ true → {a₂ : List ℤ} → a₂ ≡ freedIn a₁ r → state a₂ b₁ p ≡ up.passUp (lentRoom a b) next (state a b s) r
-    unfolding up.passUp up.free room rows.rowSlice
-    up-freed d {a₂} f = rw (← h, k, ← g, ← i, f) (sym (goes-on _ _ (p .end) d))
+  pub up-passed : t ≡ true → {e : NamedEdge} → edgeOf e ≡ up.asEdge r (lookRow a r) → {a₁ : List ℤ} → a₁ ≡ freedIn a r → length a₁ ≡ length a →
+      {a₂ b₂ : List ℤ} {p : Progress} → state a₂ b₂ p ≡ up.treat (lentRoom a₁ b) left level (state a₁ b s) (edgeOf e) →
+      state a₂ b₂ p ≡ up.passUp (lentRoom a b) (up.treat (lentRoom a b) left level) (state a b s) r
+  unfolding up.passUp up.free room rows.rowSlice
+  up-passed k g {a₁} f la i = rw (← h, k, ← g, ← f) (rw (same-room a b a₁ b la refl) at i)
 
 -- the found row, then this row
 module _ (a b : List ℤ) (left level : ℕ) (s : Progress) (q r : ℕ) {a₁ b₁ : List ℤ} {p : Progress}
@@ -72,8 +67,8 @@ unfolding up.pickMeeting
 picked-at true f h = let z : _≡_ {A = ℕ} 0 1 = cc in absurd (omega arith)
 picked-at false f h = h
 
-pub met-there : (a : List ℤ) (level : ℕ) (side : Side) (p : Place) (peak : ℕ) (t : Bool) {f : Found} {q : ℕ} → f ≡ up.pickMeeting t (foundBelow (λ k. hasTip filmPlaces level side p (lookRow a k)) peak) → f ≡ At q → HasRow a q
-met-there a level side p peak t {f} {q} e n = found-there a level side p peak q (picked-at t (foundBelow (λ k. hasTip filmPlaces level side p (lookRow a k)) peak) (sym e ∙ n))
+pub met-there : (a : List ℤ) (level : ℕ) (side : Side) (p : Place) (peak : ℕ) (t : Bool) {f : Found} {q : ℕ} → f ≡ up.pickMeeting t (foundBelow (hasTipIn a level side p) peak) → f ≡ At q → HasRow a q
+met-there a level side p peak t {f} {q} e n = found-there a level side p peak q (picked-at t (foundBelow (hasTipIn a level side p) peak) (sym e ∙ n))
 
 -- steps 2 to 4 on a row
 module _ (a b : List ℤ) (left level : ℕ) (s : Progress) (above : ℕ) (side : Side) (e : NamedEdge) (r : ℕ) {a₁ b₁ : List ℤ} {p : Progress}
@@ -83,9 +78,9 @@ module _ (a b : List ℤ) (left level : ℕ) (s : Progress) (above : ℕ) (side 
   row-stopped d = rw (← i) (sym (stops _ _ (p .end) d))
 
   module _ (d : isDone (p .end) ≡ true) {other : Side} {top : Place} {f : Found} (os : other ≡ otherSide side) (ot : top ≡ up.bottom other (edgeOf e))
-      (of : f ≡ up.pickMeeting (e .apart) (foundBelow (λ k. hasTip filmPlaces level other top (lookRow a₁ k)) (p .peak))) where
+      (of : f ≡ up.pickMeeting (e .apart) (foundBelow (hasTipIn a₁ level other top) (p .peak))) where
     met : up.meeting (lentRoom a b) (state a₁ b₁ p) level side (edgeOf e) ≡ f
-    unfolding up.meeting up.find room rows.rowSlice filmPlaces
+    unfolding up.meeting up.find room rows.rowSlice hasTipIn
     met = rw (of, ot, os)
 
     pub row-unmet : f ≡ Nothing → state a₁ b₁ p ≡ up.onRow (lentRoom a b) (up.treat (lentRoom a b) left above) (state a b s) level side (edgeOf e) r
@@ -130,11 +125,11 @@ pub record Searched (a b : List ℤ) (left level : ℕ) (s : Progress) (e : Name
   pub above : 0 < left
   pub side-is : side ≡ up.sideOf filmPlaces (edgeOf e)
   pub bottom-is : p ≡ up.bottom side (edgeOf e)
-  pub found-is : f ≡ foundBelow (λ r. hasTip filmPlaces level side p (lookRow a r)) (s .peak)
+  pub found-is : f ≡ foundBelow (hasTipIn a level side p) (s .peak)
 
 module _ {a b : List ℤ} {left level : ℕ} {s : Progress} {e : NamedEdge} {side : Side} {p : Place} {f : Found} (S : Searched a b left level s e side p f) where
   steps : up.treat (lentRoom a b) left level (state a b s) (edgeOf e) ≡ up.inChain (lentRoom a b) (up.treat (lentRoom a b) (left - 1) (level + 1)) (state a b s) level side (edgeOf e) f
-  unfolding up.treat up.stepsOn up.find room rows.rowSlice
+  unfolding up.treat up.stepsOn up.find room rows.rowSlice hasTipIn
   steps = by left (S .above)
     where
       by : (n : ℕ) → 0 < n →
@@ -148,16 +143,16 @@ module _ {a b : List ℤ} {left level : ℕ} {s : Progress} {e : NamedEdge} {sid
   unfolding up.inChain
   treat-found n i = rw (steps, n) i
 
-  module _ (n : f ≡ Nothing) {r : ℕ} (er : r ≡ first (λ k. not (lookRow a k .used)) (s .peak)) where
+  module _ (n : f ≡ Nothing) {r : ℕ} (free : r ≡ lowestFree lookRow a (s .peak)) where
     pub treat-no-row : rowsIn a ≤ r → up.ended NoFreeRow (state a b s) ≡ up.treat (lentRoom a b) left level (state a b s) (edgeOf e)
-    unfolding up.inChain room
-    treat-no-row m = rw (steps, n, ← lowest-is a s er b, le-ltb r (rowsIn a) m)
+    unfolding up.inChain
+    treat-no-row m = rw (steps, n, can-open a b s free, le-ltb r (rowsIn a) m)
 
     module _ (m : r < rowsIn a) where
       in-free-row : (next : Next) →
           up.inChain (lentRoom a b) next (state a b s) level side (edgeOf e) Nothing ≡ up.onRow (lentRoom a b) next (up.open-row (lentRoom a b) (state a b s) r level p) level side (edgeOf e) r
-      unfolding up.inChain room
-      in-free-row next = rw (← lowest-is a s er b, lt-ltb r (rowsIn a) m, S .bottom-is)
+      unfolding up.inChain
+      in-free-row next = rw (can-open a b s free, lt-ltb r (rowsIn a) m, ← chosen-is a b s free, S .bottom-is)
 
       pub treat-opened : {a₁ : List ℤ} {p₁ : Progress} → state a₁ b p₁ ≡ up.open-row (lentRoom a b) (state a b s) r level p → length a₁ ≡ length a →
           {a₂ b₂ : List ℤ} {p₂ : Progress} →

@@ -20,9 +20,9 @@ use Rattle.sweep.specs.declared.Progress.{Progress}
 use Rattle.sweep.specs.declared.NamedEdge.{NamedEdge}
 use Rattle.sweep.specs.declared.Swept.{Swept}
 
--- so many rows and records
+-- so many rows, of which all may be in use, and so many records
 unfoldable pub room : ℕ → ℕ → Room Place (List ℤ) (List ℤ)
-room n m = record { places = filmPlaces; table = rows.rowSlice; journal = journal.recordSlice; rows = n; records = m }
+room n m = record { places = filmPlaces; table = rows.rowSlice; journal = journal.recordSlice; rows = n; share = n; records = m }
 
 -- as many as two slices have
 abbrev pub lentRoom : List ℤ → List ℤ → Room Place (List ℤ) (List ℤ)

@@ -1,5 +1,5 @@
-// An edge of any level treated: step 1 finds or opens its chain's row, steps 2 and 3 attach it, step 4 finishes branches that meet and passes up each
-// row that is finished on both sides. A row passed up is an edge of the next level, so treating calls itself one level up, with one level less left.
+// An edge of any level treated: step 1 finds or opens its chain's row, steps 2 and 3 attach it, step 4 finishes branches that meet, and frees and passes up
+// each row that is finished on both sides. A row passed up is an edge of the next level, so treating calls itself one level up, with one level less left.
 use crate::NamedEdge;
 use crate::Progress;
 use rows::Place;
@@ -10,8 +10,9 @@ ghost use mathlib.Core.Path.{_≡_};
 ghost use mathlib.Core.List.{List};
 ghost use Prim.Native.Nat.{_+_, _-_, _<_};
 ghost use lib.IntN.{ℤ};
+ghost use Rattle.steps.specs.Rows.{lowestFree};
 ghost use Rattle.steps.specs.SweepUp as up;
-ghost use Rattle.rows.specs.Layout.{filmPlaces, HasRow, lookRow};
+ghost use Rattle.rows.specs.Layout.{HasRow, lookRow, hasTipIn};
 ghost use Rattle.rows.specs.Marks.{Marked};
 ghost use Rattle.sweep.specs.Slices.{lentRoom, state, edgeOf};
 ghost use Rattle.steps.specs.SweepUp.{levels};
@@ -54,7 +55,7 @@ fn open_lowest(
     level: u32,
     tip: Place,
 ) -> Progress
-    requires { ⌜ HasRow (now rows) r × (level < 2147483647) × ((b : List ℤ) → r ≡ up.lowestFree (lentRoom (now rows) b) (state (now rows) b s)) ⌝ }
+    requires { ⌜ HasRow (now rows) r × (level < 2147483647) × (r ≡ lowestFree lookRow (now rows) (s .peak)) ⌝ }
     requires { ⌜ Marked (now marks) (now rows) (s .peak) ⌝ }
     ensures { λ p. ⌜ ((b : List ℤ) → state (now (rows .exit)) b p ≡ up.open-row (lentRoom (now (rows .entry)) b) (state (now (rows .entry)) b s) r level tip) ⌝ }
     ensures { λ p. ⌜ Marked (now (marks .exit)) (now (rows .exit)) (p .peak) ⌝ }
@@ -133,7 +134,7 @@ fn meeting(
     apart: bool,
 ) -> Found
     requires { ⌜ (level < 2147483647) × Marked (now marks) (now rows) peak ⌝ }
-    ensures { λ f. ⌜ f ≡ up.pickMeeting apart (up.foundBelow (λ r. up.hasTip filmPlaces level side tip (lookRow (now (rows .entry)) r)) peak) ⌝ }
+    ensures { λ f. ⌜ f ≡ up.pickMeeting apart (up.foundBelow (hasTipIn (now (rows .entry)) level side tip) peak) ⌝ }
 {
     if apart {
         return Found::Nothing;
@@ -235,7 +236,7 @@ fn pass_both(
     pass_up(rows, journal, marks, t, level, left, r)
 }
 
-// A row with both branches finished passed up and then freed.
+// A row with both branches finished is freed and passed up. Its edge is read first: once free, the row may be opened again.
 fn pass_up(
     rows: &mut [i32],
     journal: &mut [i32],
@@ -254,10 +255,6 @@ fn pass_up(
         return s;
     }
     let e = as_edge(rows, r);
-    let t = treat(rows, journal, marks, s, level + 1, left - 1, e);
-    if !t.is_done() {
-        return t;
-    }
     rows::free_row(rows, r);
-    t
+    treat(rows, journal, marks, s, level + 1, left - 1, e)
 }

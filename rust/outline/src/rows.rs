@@ -5,18 +5,18 @@ use crate::{MOST_EDGES, NUMBERS_PER_EDGE};
 /// A point as it is ordered: height first, then x.
 type Point = (i32, i32);
 
-/// A number of rows with which refusal 10 never comes: C times the whole part
-/// of log2 of the number of edges.
+/// A number of rows with which refusal 10 never comes: 1 + F(C - 2), the whole
+/// list taken for its longest outline.
 ///
 /// C is the most edges, of all films, that pass any one point; an edge passes a
-/// point when its lower end is below that point and its higher end is not. With
-/// L the number of edges of the longest outline, C times the whole part of log2
-/// L rows are always enough: the engine's contract says so, and it is proved
-/// (the clause `enough-rows` in crates/numbering/specs/Promised.antt). Before
-/// the list is numbered L is not known, but no outline has more edges than the
-/// list, and a greater L only makes the product greater. So the number is never
-/// too small. It may be larger than needed: [`Answer::Accepted`] gives the peak,
-/// with which the same list is accepted too.
+/// point when its lower end is below that point and its higher end is not. F is
+/// the whole part of log2 L, L the number of edges of the longest outline. C
+/// times F rows are always enough, and so are 1 + F(C - 2), which are fewer: the
+/// engine's contract says both, and it is proved (the clause `enough-rows` in
+/// crates/numbering/specs/Promised.antt). Before the list is numbered L is not
+/// known, but no outline has more edges than the list, and a greater L only makes
+/// the number greater. So it is never too small. It may be larger than needed:
+/// [`Answer::Accepted`] gives the peak, with which the same list is accepted too.
 ///
 /// For a list that the engine refuses, whatever its fault, any number would do.
 /// The cost is that of sorting the edges' ends.
@@ -24,7 +24,7 @@ type Point = (i32, i32);
 /// ```
 /// let two_peaks = [3, 2, 1, 6, 0, 1, 6, 3, 0, 0, 3, 0, 6, 8, 0, 6, 8, 3, 2, 0];
 /// // All four edges pass the points just above (3, 2), and log2 of 4 is 2.
-/// assert_eq!(outline::rows_enough(&two_peaks), 8);
+/// assert_eq!(outline::rows_enough(&two_peaks), 1 + 2 * (4 - 2));
 /// assert_eq!(outline::rows_enough(&[]), 0);
 /// ```
 ///
@@ -34,7 +34,8 @@ pub fn rows_enough(edges: &[i32]) -> usize {
     if count == 0 || count > MOST_EDGES {
         return 0;
     }
-    passing(edges) * whole_log2(count)
+    // Where no two edges pass one point an outline is open, and the list refused.
+    1 + whole_log2(count) * passing(edges).saturating_sub(2)
 }
 
 /// C: the most edges that pass any one point. Going up, an edge begins to pass

@@ -151,7 +151,7 @@ fn instructions_as_text() {
 #[test]
 fn how_many_rows() {
     let two_peaks = [3, 2, 1, 6, 0, 1, 6, 3, 0, 0, 3, 0, 6, 8, 0, 6, 8, 3, 2, 0];
-    assert_eq!(rows_enough(&two_peaks), 8);
+    assert_eq!(rows_enough(&two_peaks), 5);
     assert_eq!(rows_enough(&[]), 0);
 }
 

@@ -104,7 +104,7 @@ fn the_touching_sheet() {
     for number in ["0", "1", "2", "3"] {
         assert!(sequences.contains(&format!(">{}</text>", number)));
     }
-    let title = "Outlines: 2, edges: 7, films: 1, touching points: 1, peak: 4, records: 11";
+    let title = "Outlines: 2, edges: 7, films: 1, touching points: 1, peak: 3, records: 11";
     assert!(svg.contains(&format!("<title>{}</title>", title)));
 }
 

@@ -1,5 +1,5 @@
 //! What docs/ROWS.md and its picture show: for drawn sheets the peak of rows
-//! beside the number that is proved to be enough.
+//! beside the numbers that are proved to be enough and the peak of before M-103.
 
 use std::fmt::Write;
 
@@ -15,34 +15,47 @@ pub struct Shape {
     pub sheet: Sheet,
 }
 
+impl Shape {
+    /// Family and name.
+    pub fn title(&self) -> String {
+        format!("{}, {}", self.family, self.name)
+    }
+}
+
 /// The figures of one sheet.
 pub struct Measured {
     /// Its family.
     pub family: &'static str,
-    /// Its name within the family.
-    pub name: String,
+    /// Its family and its name within it.
+    pub title: String,
     /// How many edges it has.
     pub edges: usize,
     /// L: the edges of its longest outline.
     pub longest: usize,
     /// C: the most edges that pass any one point.
     pub passing: usize,
-    /// C times the whole part of log2 L.
+    /// C times F, the whole part of log2 L.
+    pub demanded: usize,
+    /// 1 + F(C - 2).
     pub bound: usize,
     /// What the sizing function says before L is known.
     pub lent: usize,
+    /// The peak of before M-103.
+    pub before: usize,
     /// The peak that the engine reports.
     pub peak: usize,
 }
 
 /// All the shapes, family by family, small to large.
-pub fn shapes(random: &mut Random) -> Vec<Shape> {
+pub fn shapes() -> Vec<Shape> {
+    let random = &mut Random::new(9);
     let mut all = Vec::new();
     for order in 2..=11 {
         let sheet = saw(random, order);
         all.push(shape("saw", format!("order {order}"), sheet));
     }
     all.extend(full_saws(random));
+    all.extend(saws_near_the_bound());
     for size in [16, 64, 256, 1_024] {
         let sheet = comb(random, size);
         all.push(shape("comb", format!("{size} teeth"), sheet));
@@ -70,20 +83,34 @@ pub fn shapes(random: &mut Random) -> Vec<Shape> {
 fn full_saws(random: &mut Random) -> Vec<Shape> {
     let teeth = |order: u32| (0..order).rev().map(|halvings| 1 << halvings);
     let one_more = |order| teeth(order).chain([1]).collect::<Vec<usize>>();
-    let mut full = |name: &str, outlines: &[Vec<usize>]| {
-        shape("4,096 edges", name.to_string(), saws(random, outlines))
-    };
     vec![
-        full("order 11 and a tooth", &[one_more(11)]),
-        full("order 10, twice", &[one_more(10), one_more(10)]),
-        full("one tooth", &[vec![2_048]]),
-        full("16 teeth, one outline", &[vec![128; 16]]),
-        full("128 outlines of 32", &vec![vec![16]; 128]),
-        full("1,024 outlines of 4", &vec![vec![2]; 1_024]),
+        full(random, "order 11 and a tooth", &[one_more(11)]),
+        full(random, "order 10, twice", &[one_more(10), one_more(10)]),
+        full(random, "one tooth", &[vec![2_048]]),
+        full(random, "16 teeth, one outline", &[vec![128; 16]]),
+        full(random, "128 outlines of 32", &vec![vec![16]; 128]),
+        full(random, "1,024 outlines of 4", &vec![vec![2]; 1_024]),
     ]
 }
 
-fn shape(family: &'static str, name: String, sheet: Sheet) -> Shape {
+/// Two more of them: the nearest to the bound, and one that needs half as many
+/// rows as it has edges with a smaller C.
+fn saws_near_the_bound() -> Vec<Shape> {
+    let random = &mut Random::new(10);
+    let forty_eights = [vec![vec![24]; 85], vec![vec![8]]].concat();
+    let sixes = [vec![vec![3]; 682], vec![vec![2]]].concat();
+    vec![
+        full(random, "85 outlines of 48, one of 16", &forty_eights),
+        full(random, "682 outlines of 6, one of 4", &sixes),
+    ]
+}
+
+fn full(random: &mut Random, name: &str, outlines: &[Vec<usize>]) -> Shape {
+    shape("4,096 edges", name.to_string(), saws(random, outlines))
+}
+
+/// A sheet with its family and its name.
+pub fn shape(family: &'static str, name: String, sheet: Sheet) -> Shape {
     Shape {
         family,
         name,
@@ -94,17 +121,16 @@ fn shape(family: &'static str, name: String, sheet: Sheet) -> Shape {
 /// The table, in Markdown.
 pub fn table(all: &[Measured]) -> String {
     let mut text = String::from(
-        "| Sheet | Edges | L | C | C times log2 L | `rows_enough` | Peak | Peak of bound |\n\
-         |---|---|---|---|---|---|---|---|\n",
+        "| Sheet | Edges | L | C | C times F | 1 + F(C - 2) | `rows_enough` | Peak before | Peak | Peak of 1 + F(C - 2) |\n\
+         |---|--:|--:|--:|--:|--:|--:|--:|--:|--:|\n",
     );
     for m in all {
-        let share = 100 * m.peak / m.bound;
-        writeln!(
-            text,
-            "| {}, {} | {} | {} | {} | {} | {} | {} | {share} % |",
-            m.family, m.name, m.edges, m.longest, m.passing, m.bound, m.lent, m.peak
-        )
-        .unwrap();
+        let (title, share) = (&m.title, 100 * m.peak / m.bound);
+        let numbers = [
+            m.edges, m.longest, m.passing, m.demanded, m.bound, m.lent, m.before, m.peak,
+        ];
+        let numbers = numbers.map(|number| number.to_string()).join(" | ");
+        writeln!(text, "| {title} | {numbers} | {share} % |").unwrap();
     }
     text
 }
@@ -113,8 +139,8 @@ const COLOURS: [&str; 7] = [
     "#1b6ca8", "#b3411e", "#3c7d3c", "#7a4fa0", "#a07a10", "#555555", "#0f8b8d",
 ];
 
-/// The plot: on both axes powers of two, across the bound, upwards the peak; a
-/// sheet on the slanting line needs every row that the bound gives it.
+/// The plot: on both axes powers of two, across the smaller bound, upwards the
+/// peak; a sheet on the slanting line needs every row that the bound gives it.
 pub fn plot(all: &[Measured]) -> String {
     let mut text = String::from(
         "<svg xmlns=\"http://www.w3.org/2000/svg\" viewBox=\"0 0 720 640\" \
@@ -126,14 +152,14 @@ pub fn plot(all: &[Measured]) -> String {
     }
     let ((left, low), (right, high)) = (at(1, 1), at(1 << 15, 1 << 15));
     writeln!(text, "<path d=\"M{left:.1} {low:.1}L{right:.1} {high:.1}\" stroke=\"black\" stroke-dasharray=\"5 4\"/>").unwrap();
-    text.push_str("<text x=\"330\" y=\"630\" text-anchor=\"middle\">rows that are proved enough: C times the whole part of log2 L</text>\n");
-    text.push_str("<text transform=\"translate(16 300) rotate(-90)\" text-anchor=\"middle\">peak: rows that are needed</text>\n");
+    text.push_str("<text x=\"330\" y=\"630\" text-anchor=\"middle\">rows that are proved enough: 1 + F(C - 2)</text>\n");
+    text.push_str("<text transform=\"translate(16 300) rotate(-90)\" text-anchor=\"middle\">peak: rows that are needed; a ring: before M-103</text>\n");
     let mut families: Vec<&str> = all.iter().map(|m| m.family).collect();
     families.dedup();
     for (place, family) in families.into_iter().enumerate() {
-        let points = all.iter().filter(|m| m.family == family);
-        let points: Vec<(f64, f64)> = points.map(|m| at(m.bound, m.peak)).collect();
-        draw_family(&mut text, family, place, &points);
+        let of_family: Vec<&Measured> = all.iter().filter(|m| m.family == family).collect();
+        draw_family(&mut text, COLOURS[place], &of_family);
+        name_family(&mut text, family, COLOURS[place], 60 + 20 * place);
     }
     text.push_str("</svg>\n");
     text
@@ -169,22 +195,30 @@ fn grid_line(text: &mut String, power: u32) {
     }
 }
 
-/// A dot for each sheet of a family, and the family's name beside its colour.
-fn draw_family(text: &mut String, family: &str, place: usize, points: &[(f64, f64)]) {
-    let colour = COLOURS[place];
-    for (x, y) in points {
-        writeln!(
-            text,
-            "<circle cx=\"{x:.1}\" cy=\"{y:.1}\" r=\"4\" fill=\"{colour}\"/>"
-        )
-        .unwrap();
+/// A dot at the peak of each sheet of a family, and a ring at the peak of before
+/// where that is another.
+fn draw_family(text: &mut String, colour: &str, of_family: &[&Measured]) {
+    let mut circle = |bound: usize, peak: usize, look: &str| {
+        let (x, y) = at(bound, peak);
+        writeln!(text, "<circle cx=\"{x:.1}\" cy=\"{y:.1}\" {look}/>").unwrap();
+    };
+    let ring = format!("r=\"3.5\" fill=\"none\" stroke=\"{colour}\"");
+    let dot = format!("r=\"4\" fill=\"{colour}\"");
+    for m in of_family {
+        if m.before != m.peak {
+            circle(m.bound, m.before, &ring);
+        }
+        circle(m.bound, m.peak, &dot);
     }
-    let y = 60 + 20 * place;
+}
+
+/// A family's name beside its colour.
+fn name_family(text: &mut String, family: &str, colour: &str, y: usize) {
+    let middle = y - 4;
     writeln!(
         text,
-        "<circle cx=\"80\" cy=\"{}\" r=\"4\" fill=\"{colour}\"/>",
-        y - 4
+        "<circle cx=\"80\" cy=\"{middle}\" r=\"4\" fill=\"{colour}\"/>\n\
+         <text x=\"92\" y=\"{y}\">{family}</text>"
     )
     .unwrap();
-    writeln!(text, "<text x=\"92\" y=\"{y}\">{family}</text>").unwrap();
 }

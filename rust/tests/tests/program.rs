@@ -8,9 +8,11 @@ use std::io::{Read, Write};
 use std::thread::sleep;
 use std::time::Duration;
 
+use tests::held::{assemble, refusal};
 use tests::process::{program, start};
+use witness::call::Call;
 use witness::generate::{any, mosaic, pixels, saws, Random, Seed};
-use witness::text::{MOST_BYTES, MOST_LINES};
+use witness::text::{MOST_BYTES, MOST_LINES, PROGRAM_ROWS};
 use witness::vectors::{all_cases, Work};
 
 /// What the program prints for an input that comes in these pieces, with a
@@ -61,14 +63,13 @@ fn text(sheet: &[i32]) -> Vec<u8> {
 #[test]
 fn the_cases_of_the_vectors() {
     let mut cases = 0;
-    for case in all_cases().unwrap() {
-        if let Work::Program(input, expected) = case.work {
-            let expected = String::from_utf8_lossy(&expected).into_owned();
-            assert_eq!(printed(&[&input]), expected, "case {}", case.id);
+    for case in &all_cases().unwrap() {
+        if let Work::Program(input, expected) = &case.work {
+            case.check_printed(printed(&[input]).as_bytes(), expected);
             cases += 1;
         }
     }
-    assert_eq!(cases, 163);
+    assert_eq!(cases, 209);
 }
 
 #[test]
@@ -217,16 +218,28 @@ fn input_in_pieces() {
     assert_eq!(printed(&pieces), "refused 2 0\n");
 }
 
-/// The program lends 256 rows. Outlines with two lowest points and a peak above
-/// all others take two rows each while they are open, and one of them a third
-/// when it closes.
+/// The program lends 256 rows, which are enough for 512 lines: no sheet needs
+/// more than half as many rows as it has edges. These need as many as that: many
+/// outlines of a few lowest points each, or one of many, all open at once.
 #[test]
-fn about_as_many_rows_as_the_program_lends() {
+fn as_many_rows_as_the_program_lends() {
     let random = &mut Random::new(10);
-    let enough = saws(random, &vec![vec![2]; 127]);
-    assert!(check(&text(&enough)).starts_with("accepted 127 255 "));
-    let too_few = saws(random, &vec![vec![2]; 128]);
-    assert_eq!(check(&text(&too_few)), "refused 10 257\n");
+    let threes = [vec![vec![3]; 84], vec![vec![4]]].concat();
+    let most = [
+        vec![vec![2]; 128],
+        vec![vec![4]; 64],
+        threes,
+        vec![vec![2; 128]],
+    ];
+    for outlines in most {
+        let sheet = saws(random, &outlines);
+        let printed = check(&text(&sheet));
+        let accepted = format!("accepted {} {PROGRAM_ROWS} ", outlines.len());
+        assert!(printed.starts_with(&accepted), "{printed}");
+        assert_eq!(printed.lines().count(), 1 + MOST_LINES);
+        let one_fewer = Call::fitting(sheet, PROGRAM_ROWS - 1);
+        assert_eq!(refusal(assemble(random, &one_fewer)), 10);
+    }
 }
 
 #[test]

@@ -1,14 +1,16 @@
-//! The sizing function against the bound that is proved: C is what the witness
+//! The sizing function against the bounds that are proved: C is what the witness
 //! counts, the list's length stands for the longest outline, and so many rows
-//! always suffice; the peak is exact.
+//! always suffice; the peak is exact, and no larger than before M-103.
 
+use std::collections::BTreeMap;
 use std::path::Path;
 use std::{env, fs};
 
+use tests::before::{kept, sheets};
 use tests::held::{assemble, refusal};
 use tests::rows::{plot, shapes, table, Measured, Shape};
 use witness::call::Call;
-use witness::declared::{longest, passing, sufficient_rows};
+use witness::declared::{longest, passing, rows_of_demand_3, sufficient_rows};
 use witness::generate::{any, squares, Random, Seed, Sheet};
 use witness::geometry::read_edges;
 use witness::Answer;
@@ -18,20 +20,21 @@ fn whole_log2(number: usize) -> usize {
     (1..).find(|power| 1 << power > number).unwrap() - 1
 }
 
-/// Checks a sheet; gives its peak and the rows that are enough.
-fn check(random: &mut Random, sheet: &Sheet) -> (usize, usize) {
+/// Checks a sheet; gives its peak.
+fn check(random: &mut Random, sheet: &Sheet) -> usize {
     let edges = read_edges(sheet);
     let enough = outline::rows_enough(sheet);
     if edges.is_empty() {
         assert_eq!(enough, 0);
-        return (0, 0);
+        return 0;
     }
     let (most, longest) = (passing(&edges), longest(&edges));
-    assert_eq!(enough, most * whole_log2(edges.len()));
-    assert!(enough >= most * whole_log2(longest));
-    match assemble(random, &Call::fitting(sheet.clone(), enough)) {
-        Answer::Accepted { peak, .. } => (peak as usize, enough),
-        Answer::Refused(refusal) => panic!("with {} rows: {:?}", enough, refusal),
+    assert_eq!(enough, 1 + whole_log2(edges.len()) * (most - 2));
+    let by_longest = 1 + whole_log2(longest) * (most - 2);
+    assert!(by_longest <= enough && by_longest <= most * whole_log2(longest));
+    match assemble(random, &Call::fitting(sheet.clone(), by_longest)) {
+        Answer::Accepted { peak, .. } => peak as usize,
+        Answer::Refused(refusal) => panic!("with {} rows: {:?}", by_longest, refusal),
     }
 }
 
@@ -41,9 +44,30 @@ fn rows_enough_for_every_shape() {
         let seed = Seed(seed);
         let random = &mut seed.random();
         let sheet = any(random);
-        let (peak, enough) = check(random, &sheet);
-        assert!(peak <= enough);
+        let peak = check(random, &sheet);
+        assert!(2 * peak <= read_edges(&sheet).len());
     }
+}
+
+/// The sheets are those whose peaks of before are kept, none more and none
+/// fewer. With as many rows as before each is accepted, and many with one fewer.
+#[test]
+fn no_peak_is_larger_than_before() {
+    let random = &mut Random::new(12);
+    let (mut kept, mut fallen) = (kept(), BTreeMap::new());
+    for shape in sheets() {
+        let title = shape.title();
+        let before = kept.remove(&title).expect(&title);
+        assert_eq!(read_edges(&shape.sheet).len(), before.edges, "{title}");
+        match assemble(random, &Call::fitting(shape.sheet, before.peak)) {
+            Answer::Accepted { peak, .. } => {
+                *fallen.entry(before.peak - peak as usize).or_insert(0) += 1;
+            }
+            Answer::Refused(refusal) => panic!("{title}: {refusal:?}"),
+        }
+    }
+    assert!(kept.is_empty(), "no sheets: {:?}", kept.keys());
+    assert_eq!(fallen, BTreeMap::from([(0, 181), (1, 126)]));
 }
 
 /// Hartley's saws and the drawn shapes up to the most edges: the peak is exact,
@@ -51,11 +75,12 @@ fn rows_enough_for_every_shape() {
 /// set they are written there.
 #[test]
 fn peaks_and_the_bound() {
-    let random = &mut Random::new(9);
-    let all: Vec<Measured> = shapes(random)
-        .into_iter()
-        .map(|shape| measured(random, shape))
-        .collect();
+    let (random, kept) = (&mut Random::new(13), kept());
+    let mut all = Vec::new();
+    for shape in shapes() {
+        let before = kept[&shape.title()].peak;
+        all.push(measured(random, shape, before));
+    }
     let documents = Path::new(env!("CARGO_MANIFEST_DIR")).join("../../docs");
     let (page, picture) = (documents.join("ROWS.md"), documents.join("rows.svg"));
     let text = fs::read_to_string(&page).unwrap();
@@ -72,26 +97,24 @@ fn peaks_and_the_bound() {
 }
 
 /// The figures of a sheet. Its peak suffices, one row fewer is refused.
-fn measured(random: &mut Random, shape: Shape) -> Measured {
-    let Shape {
-        family,
-        name,
-        sheet,
-    } = shape;
-    let (peak, lent) = check(random, &sheet);
+fn measured(random: &mut Random, shape: Shape, before: usize) -> Measured {
+    let (title, sheet) = (shape.title(), shape.sheet);
+    let peak = check(random, &sheet);
     let exactly = Call::fitting(sheet.clone(), peak);
     assert_eq!(refusal(assemble(random, &exactly)), 0);
     let one_fewer = Call::fitting(sheet.clone(), peak - 1);
     assert_eq!(refusal(assemble(random, &one_fewer)), 10);
     let edges = read_edges(&sheet);
     Measured {
-        family,
-        name,
+        family: shape.family,
+        title,
         edges: edges.len(),
         longest: longest(&edges),
         passing: passing(&edges),
+        demanded: rows_of_demand_3(&edges),
         bound: sufficient_rows(&edges),
-        lent,
+        lent: outline::rows_enough(&sheet),
+        before,
         peak,
     }
 }
@@ -103,9 +126,10 @@ fn the_longest_outline_is_not_the_list() {
     let sheet = squares(&mut Random::new(3), 2, 1);
     let edges = read_edges(&sheet);
     assert_eq!((edges.len(), longest(&edges)), (8, 4));
-    let most = passing(&edges);
-    assert_eq!(sufficient_rows(&edges), most * 2);
-    assert_eq!(outline::rows_enough(&sheet), most * 3);
+    assert_eq!(passing(&edges), 4);
+    assert_eq!(rows_of_demand_3(&edges), 4 * 2);
+    assert_eq!(sufficient_rows(&edges), 1 + 2 * 2);
+    assert_eq!(outline::rows_enough(&sheet), 1 + 3 * 2);
 }
 
 /// A lozenge: two edges pass each of its points above the lowest. With both ends
@@ -123,14 +147,17 @@ fn an_edge_does_not_pass_its_lower_end() {
     };
     let most_closed = edges.iter().map(|edge| closed(edge.top())).max();
     assert_eq!((passing(&edges), most_closed), (2, Some(3)));
-    assert_eq!(outline::rows_enough(&lozenge), 4);
+    assert_eq!(outline::rows_enough(&lozenge), 1);
 }
 
-/// Lists that are refused anyway get some number, and no panic.
+/// Lists that are refused anyway get some number, and no panic: also where no
+/// point is passed by two edges, or by one.
 #[test]
 fn any_list_has_an_answer() {
     assert_eq!(outline::rows_enough(&[1, 2, 3, 4]), 0);
     assert_eq!(outline::rows_enough(&vec![0; 5 * 4_097]), 0);
+    assert_eq!(outline::rows_enough(&[7; 20]), 1);
+    assert_eq!(outline::rows_enough(&[0, 0, 1, 1, 0, 5, 5, 6, 6, 0]), 1);
     for seed in 0..2_000 {
         let seed = Seed(seed);
         let random = &mut seed.random();

@@ -10,7 +10,7 @@ use std::path::{Path, PathBuf};
 use std::process::{Command, Stdio};
 
 use tests::process::program;
-use witness::generate::{any, damaged, mosaic, saws, Random, Seed};
+use witness::generate::{any, damaged, mosaic, Seed};
 use witness::text::{MOST_BYTES, MOST_LINES, PROGRAM_ROWS};
 
 const TRIANGLE: &str = "0 0 4 2 0\n4 2 1 5 0\n1 5 0 0 0\n";
@@ -291,18 +291,6 @@ fn refusals_with_films() {
 }
 
 #[test]
-fn too_few_rows() {
-    let house = House::built("rows", "");
-    let random = &mut Random::new(10);
-    let sheet = outline::text::write_sheet(&saws(random, &vec![vec![2]; 128]));
-    let said = house.check(&sheet);
-    let line = sheet.lines().nth(257).unwrap();
-    let head = format!("outline: sheet.txt: refusal 10 (NoRow), line 258 (edge 257, counted from 0): {line}\n  What is wrong: all {PROGRAM_ROWS} rows ");
-    assert!(said.starts_with(&head), "{said}");
-    assert!(said.contains("\n  What to do: call the library with more rows; "));
-}
-
-#[test]
 fn a_sheet_that_is_too_large() {
     let house = House::built("too-large", "");
     let say = |lines: &str, bytes: &str| {
@@ -436,6 +424,20 @@ fn refusals_that_the_program_does_not_give() {
         let wanted = format!("outline: standard input: refusal {number} ({word})\n  What is wrong: {wrong}.\n  What to do: {to_do}.\n");
         assert_eq!(ran.errors, wanted);
     }
+}
+
+/// The same of 10, which names an edge: the rows that the program lends are enough
+/// for every sheet that it takes.
+#[test]
+fn a_row_that_the_program_does_not_lack() {
+    let house = House::built("rows", "echo refused 10 1");
+    house.write("sheet.txt", TRIANGLE);
+    let ran = house.run("./outline sheet.txt");
+    assert_eq!((ran.output.as_str(), ran.status), ("refused 10 1\n", 1));
+    let said = ran.errors;
+    let head = format!("outline: sheet.txt: refusal 10 (NoRow), line 2 (edge 1, counted from 0): 4 2 1 5 0\n  What is wrong: all {PROGRAM_ROWS} rows ");
+    assert!(said.starts_with(&head), "{said}");
+    assert!(said.contains("\n  What to do: call the library with more rows; "));
 }
 
 #[test]

@@ -95,9 +95,17 @@ pub fn longest(edges: &[Edge]) -> usize {
     lengths.max().unwrap_or(0)
 }
 
-/// A number of rows that always suffices: C times log2 L, rounded down; 0 for
-/// the empty list.
+/// A number of rows that always suffices: 1 + F(C - 2), F being log2 L, rounded
+/// down; 0 for the empty list.
 pub fn sufficient_rows(edges: &[Edge]) -> usize {
+    match longest(edges) {
+        0 => 0,
+        longest => 1 + floor_log2(longest) * (passing(edges) - 2),
+    }
+}
+
+/// The larger number that demand 3 names: C times log2 L, rounded down.
+pub fn rows_of_demand_3(edges: &[Edge]) -> usize {
     match longest(edges) {
         0 => 0,
         longest => passing(edges) * floor_log2(longest),

@@ -1,8 +1,8 @@
 //! A witness for the outline engine: the rules of document 01, and of requests
-//! M-100 for films, M-101 for numbers and turns in one call and M-102 for
-//! instructions, written a second time, for clearness only, so that the engine
-//! can be held against it. `checks`, `steps`, `assemble`, `turns`, `instructions`
-//! and `text` answer as the engine must;
+//! M-100 for films, M-101 for numbers and turns in one call, M-102 for
+//! instructions and M-103 for rows given back first, written a second time, for
+//! clearness only, so that the engine can be held against it. `checks`, `steps`,
+//! `assemble`, `turns`, `instructions` and `text` answer as the engine must;
 //! `declared` says what the numbers are without any sweep; `call`, `vectors`,
 //! `worked` and `generate` are what tests of either engine need.
 //!
@@ -29,6 +29,7 @@
 #![warn(missing_docs)]
 
 pub mod assemble;
+mod before;
 pub mod call;
 pub mod checks;
 pub mod declared;

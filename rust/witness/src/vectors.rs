@@ -3,10 +3,12 @@
 //! file abbreviates (`untouched`, `zeros`, `empty`) written in full, so that
 //! they can be held against any engine.
 
+use std::borrow::Cow;
 use std::collections::BTreeMap;
 use std::str::FromStr;
 
 use crate::assemble::Answer;
+use crate::before;
 use crate::call::{Call, CutCall, Outcome, TurnCall, TurnOutcome};
 use crate::checks::Refusal;
 use crate::geometry::NUMBERS_PER_EDGE;
@@ -26,6 +28,9 @@ const ONE_CALL: &str = include_str!("../../vectors/M-101.txt");
 /// The cases of request M-102, with instructions.
 const INSTRUCTIONS: &str = include_str!("../../vectors/M-102.txt");
 
+/// The cases of request M-103, with rows given back first.
+const ROWS_FIRST: &str = include_str!("../../vectors/M-103.txt");
+
 /// One case of a vector file.
 #[derive(Clone, PartialEq, Eq, Debug)]
 pub struct Case {
@@ -33,6 +38,41 @@ pub struct Case {
     pub id: String,
     /// What is done and what must come of it.
     pub work: Work,
+    /// Whether it was worked before M-103, so that only what does not hang on
+    /// rows must come of it.
+    pub older: bool,
+}
+
+impl Case {
+    /// Holds the outcome of its assembling call to the one expected.
+    ///
+    /// # Panics
+    /// When they differ.
+    pub fn check_outcome(&self, given: &Outcome, expected: &Outcome) {
+        if self.older {
+            before::check_outcome(&self.id, given, expected);
+        } else {
+            assert_eq!(given, expected, "case {}", self.id);
+        }
+    }
+
+    /// Holds what the program prints to what is expected.
+    ///
+    /// # Panics
+    /// When they differ.
+    pub fn check_printed(&self, given: &[u8], expected: &[u8]) {
+        let (given, expected) = (text(given), text(expected));
+        if self.older {
+            before::check_printed(&self.id, &given, &expected);
+        } else {
+            assert_eq!(given, expected, "case {}", self.id);
+        }
+    }
+}
+
+/// Bytes, to be shown.
+fn text(bytes: &[u8]) -> Cow<'_, str> {
+    String::from_utf8_lossy(bytes)
 }
 
 /// What a case does.
@@ -60,13 +100,15 @@ pub fn read_cases(text: &str) -> Result<Vec<Case>, String> {
         let (id, operation) = (words[1].to_string(), words[2]);
         let block = Block::read(&mut lines).and_then(|block| block.work(operation));
         let work = block.map_err(|reason| format!("case {}: {}", id, reason))?;
-        cases.push(Case { id, work });
+        let older = false;
+        cases.push(Case { id, work, older });
     }
     Ok(cases)
 }
 
 /// All cases of the repository's vector files: those of document 01, read in
-/// film 0, and those of requests M-100 to M-102.
+/// film 0, and those of requests M-100 to M-103. The files before M-103 are
+/// complete for their own time, with the rows of that time.
 pub fn all_cases() -> Result<Vec<Case>, String> {
     let base = read_cases(BASE)?.into_iter().map(in_film_0);
     let requests = [
@@ -74,7 +116,12 @@ pub fn all_cases() -> Result<Vec<Case>, String> {
         read_cases(ONE_CALL)?,
         read_cases(INSTRUCTIONS)?,
     ];
-    Ok(base.chain(requests.into_iter().flatten()).collect())
+    let older = base.chain(requests.into_iter().flatten());
+    let older = older.map(|case| Case {
+        older: true,
+        ..case
+    });
+    Ok(older.chain(read_cases(ROWS_FIRST)?).collect())
 }
 
 /// A case of document 01 with every edge in film 0, which leaves what must come

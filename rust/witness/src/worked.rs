@@ -1,13 +1,13 @@
 //! Sheets worked by hand, those of document 01 in film 0 and those that show
 //! what request M-100 says of films, with the answers and numbers that the
-//! rules give them. Any engine can be held against them.
+//! rules give them and the peaks of M-103. Any engine can be held against them.
 
 use crate::assemble::Answer;
 use crate::call::{Call, Outcome};
 use crate::checks::Refusal;
 use crate::generate::Sheet;
 use crate::geometry::Edge;
-use crate::steps::NUMBERS_PER_RECORD;
+use crate::steps::{NUMBERS_PER_RECORD, NUMBERS_PER_ROW};
 
 /// An edge's polygon number and sequence number.
 pub type Pair = (u32, u32);
@@ -47,6 +47,13 @@ impl Worked {
             answer: Answer::Refused(Refusal { number, place }),
             pairs: Vec::new(),
         }
+    }
+
+    /// Refused for want of a row, when it is lent so many.
+    fn lacking_a_row(name: &'static str, edges: Sheet, rows: usize, place: u32) -> Worked {
+        let mut worked = Worked::refused(name, edges, 10, place);
+        worked.call.rows = NUMBERS_PER_ROW * rows;
+        worked
     }
 
     /// An outcome of the call: its answer must be this one, and every slice must
@@ -120,7 +127,7 @@ pub fn touching(upper: i32) -> Sheet {
 /// The numbers of the touching sheet, whatever its films.
 const TOUCHING_PAIRS: [Pair; 7] = [(2, 1), (2, 2), (1, 1), (2, 3), (2, 0), (1, 2), (1, 0)];
 
-/// The accepted sheets of document 01.
+/// The accepted sheets of document 01; each is lent as many rows as its peak.
 pub fn accepted_by_document_01() -> Vec<Worked> {
     let there_and_back = film_0(&[[0, 0, 1, 1], [1, 1, 0, 0]]);
     let square = film_0(&[[0, 0, 2, 0], [0, 2, 0, 0], [2, 0, 2, 2], [2, 2, 0, 2]]);
@@ -137,18 +144,20 @@ pub fn accepted_by_document_01() -> Vec<Worked> {
             &[(1, 1), (1, 0)],
         ),
         Worked::accepted("square", square, [1, 1, 5], &four),
-        Worked::accepted("two peaks", TWO_PEAKS.to_vec(), [1, 3, 7], &peaks),
-        Worked::accepted("touching", touching(0), [2, 4, 11], &TOUCHING_PAIRS),
+        Worked::accepted("two peaks", TWO_PEAKS.to_vec(), [1, 2, 7], &peaks),
+        Worked::accepted("touching", touching(0), [2, 3, 11], &TOUCHING_PAIRS),
     ]
 }
 
-/// The refused sheets of document 01; each is lent two rows.
+/// The refused sheets of document 01, and those that M-103 refuses for want of a
+/// row.
 pub fn refused_by_document_01() -> Vec<Worked> {
     let twice = [&TRIANGLE[..5], &TRIANGLE[..]].concat();
     let without_last = TRIANGLE[..10].to_vec();
     let changed_over = [&TRIANGLE[5..10], &TRIANGLE[..5], &TRIANGLE[10..]].concat();
     vec![
-        Worked::refused("two peaks with two rows", TWO_PEAKS.to_vec(), 10, 3),
+        Worked::lacking_a_row("two peaks with one row", TWO_PEAKS.to_vec(), 1, 1),
+        Worked::lacking_a_row("touching with two rows", touching(0), 2, 2),
         Worked::refused("triangle with its first edge twice", twice, 8, 1),
         Worked::refused("triangle without its last edge", without_last, 9, 0),
         Worked::refused("equal ends", vec![5, 5, 5, 5, 0], 6, 0),
@@ -241,7 +250,7 @@ pub fn accepted_in_films() -> Vec<Worked> {
         Worked::accepted(
             "touching in two films",
             touching(1),
-            [2, 4, 11],
+            [2, 3, 11],
             &TOUCHING_PAIRS,
         ),
     ];

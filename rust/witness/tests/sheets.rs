@@ -73,7 +73,7 @@ fn check_sheet(random: &mut Random, sheet: &Sheet, met: &mut Met) {
     };
     check_numbers(&edges, &outcome, polygons);
     assert!(records <= 2 * edges.len() - polygons, "too many records");
-    assert!(peak <= rows);
+    assert!(2 * peak <= edges.len(), "too many rows");
     check_rows(random, sheet, &outcome, peak, met);
     check_turns(&edges, &outcome, polygons);
     met.equal_tops += check_tops(&edges);
@@ -122,20 +122,15 @@ fn check_rows(random: &mut Random, sheet: &Sheet, outcome: &Outcome, peak: usize
     }
 }
 
-/// The edge of the list during whose treatment a row is first opened that has
-/// at least this name. Since the lowest free row is opened, so many rows are
-/// too few from this edge on.
+/// The edge that first opens a row with at least this name. It is one of the
+/// list. Since the lowest free row is opened, so many rows are too few from this
+/// edge on.
 fn edge_that_opens(journal: &[i32], rows: i32) -> u32 {
-    let mut place = 0;
-    for record in journal.chunks_exact(4) {
-        if record[0] == 0 {
-            place = record[1] as u32;
-        }
-        if record[2] >= rows {
-            return place;
-        }
-    }
-    panic!("no row {} in the journal", rows);
+    let mut records = journal.chunks_exact(4);
+    let opening = records.find(|record| record[2] >= rows);
+    let opening = opening.unwrap_or_else(|| panic!("no row {} in the journal", rows));
+    assert_eq!(opening[0], 0, "an edge passed up lacks a row");
+    opening[1] as u32
 }
 
 /// The turn list of the two lists is the one that the call gave, and lays each

@@ -153,7 +153,7 @@ fn the_most_bytes() {
 }
 
 /// Outlines with two lowest points each, which close, left to right, only above
-/// all of them. Each takes two rows while it waits and needs a third to close.
+/// all of them. Each takes two rows while it waits.
 fn waiting(outlines: i32) -> String {
     let lower = |at: i32| {
         let (x, y) = (4 * at, 3 * at);
@@ -169,9 +169,11 @@ fn waiting(outlines: i32) -> String {
     all.clone().map(lower).chain(all.map(upper)).collect()
 }
 
+/// The program lends 256 rows, and no sheet needs more than half as many rows as
+/// it has edges.
 #[test]
-fn the_program_lends_256_rows() {
-    let printed = String::from_utf8(outline(waiting(127).as_bytes())).unwrap();
-    assert!(printed.starts_with("accepted 127 255 889\n507 1 0\n"));
-    prints(waiting(128), "refused 10 257\n");
+fn the_most_lines_with_the_most_rows() {
+    let printed = String::from_utf8(outline(waiting(128).as_bytes())).unwrap();
+    assert!(printed.starts_with("accepted 128 256 896\n511 1 0\n"));
+    assert_eq!(printed.lines().count(), 1 + MOST_LINES);
 }

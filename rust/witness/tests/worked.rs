@@ -63,6 +63,20 @@ fn an_empty_list_clears_what_is_lent() {
     let outcome = call.outcome(assemble);
     assert_eq!((outcome.journal, outcome.rows), (vec![0; 9], vec![0; 16]));
     assert_eq!(declared::sufficient_rows(&[]), 0);
+    assert_eq!(declared::rows_of_demand_3(&[]), 0);
+}
+
+/// The last edge finishes both chains. That of row 1 gives its row back and, as
+/// an edge of the next level, opens it again, so that the record's name is its
+/// chain's row; row 0 is in use until then, and goes up next.
+#[test]
+fn the_journal_of_two_peaks() {
+    let outcome = outcome(&TWO_PEAKS, 2);
+    let edges = [0, 0, 0, 0, 0, 1, 1, -1, 0, 2, 1, 0, 0, 3, 0, -1];
+    let passed_up = [1, 1, 1, 1, 1, 0, 1, -1, 2, 1, -1, 2];
+    assert_eq!(outcome.journal[..16], edges);
+    assert_eq!(outcome.journal[16..28], passed_up);
+    assert_eq!(outcome.journal[28..], [0; 4]);
 }
 
 #[test]
@@ -82,9 +96,9 @@ fn program_on_the_triangle() {
 #[test]
 fn a_part_of_a_row_does_not_help() {
     for part_of_a_row in 0..8 {
-        let mut call = Call::fitting(TWO_PEAKS.to_vec(), 2);
+        let mut call = Call::fitting(TWO_PEAKS.to_vec(), 1);
         call.rows += part_of_a_row;
-        assert_eq!(call.outcome(assemble).answer, refused(10, 3));
+        assert_eq!(call.outcome(assemble).answer, refused(10, 1));
     }
 }
 
@@ -94,7 +108,7 @@ fn a_part_of_a_row_does_not_help() {
 fn outlines_of_two_films_do_not_touch() {
     let touches = |upper: i32| declared::touching_sites(&read_edges(&touching(upper))).len();
     assert_eq!((touches(0), touches(1)), (1, 0));
-    let (one, two) = (outcome(&touching(0), 4), outcome(&touching(1), 4));
+    let (one, two) = (outcome(&touching(0), 3), outcome(&touching(1), 3));
     assert_eq!(one, two);
 }
 
@@ -144,7 +158,8 @@ fn the_measures_of_two_peaks() {
     let edges = read_edges(&TWO_PEAKS);
     assert_eq!(declared::passing(&edges), 4);
     assert_eq!(declared::longest(&edges), 4);
-    assert_eq!(declared::sufficient_rows(&edges), 8);
+    assert_eq!(declared::sufficient_rows(&edges), 5);
+    assert_eq!(declared::rows_of_demand_3(&edges), 8);
 }
 
 /// C counts the edges of all films.

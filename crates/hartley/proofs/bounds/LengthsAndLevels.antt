@@ -77,5 +77,5 @@ pub level-small : {sh : Plan} → Lawful sh → sh .list .edges ≤ mostEdges �
 level-small N few l r = ⊎-elim (λ h. let a = pow-le 13 l h in absurd (omega (arith, a, room-small N l r))) (λ h. omega arith) (lt-or-le 12 l)
 
 -- records at any moment
-pub records-small : {sh : Plan} {p m n : ℕ} {T : Table} {J : List Rec} {B : Naming} {G : Paths} → State sh p m n T J B G → (k : ℕ) → listed J ≤ k → records J + closes J ≤ 2 * k
+pub records-small : {sh : Plan} {p m : ℕ} {Y : Table} {J : List Rec} {B : Naming} {G : Paths} → State sh p m Y J B G → (k : ℕ) → listed J ≤ k → records J + closes J ≤ 2 * k
 records-small {J = J} I k h = let w = two-ways J in omega (arith, w .0, w .1, I .paid)

@@ -1,24 +1,27 @@
--- The rows in use at a moment, level by level. Those of one level are at most the edges that pass the sweep's height, those passed up and not yet
--- freed among them; and where no outline has room for an own level above b there are at most b levels.
+-- The rows in use before an edge of the list that finds no row, level by level. Those of one level are fewer by two than the edges that pass the sweep's height, and
+-- where no outline has room for an own level above b there are at most b levels.
 use mathlib.Core.Path.{_≡_, refl, ap, sym, _∙_}
 use mathlib.Core.Bool.{Bool, true, false, _&&_, _||_}
 use mathlib.Core.List.{List}
 use mathlib.Core.Logic.{⊎-elim}
-use Prim.Native.Nat.{ℕ, zero, suc, _-_, _*_, _≤_}
+use Prim.Native.Nat.{ℕ, zero, suc, _-_, _*_, _≤_, _<_}
 use native.Mathlib.Omega.{arith}
 use lib.Dec.{eqb, ltb}
 use borrow.Author.Tests.{eq-eqb, eqb-true, lt-ltb, le-ltb, ltb-true}
 use Rattle.laws.specs.Counting.{count}
 use Rattle.laws.proofs.Deciding.{lt-or-le, both-true}
 use Rattle.laws.proofs.Counting.{count-or, count-none, count-implies}
-use Rattle.hartley.proofs.paths.Plan.{Plan, Lawful}
+use Rattle.steps.specs.declared.Side.{Side}
+use Rattle.steps.specs.Rows.{otherSide, Row}
+use Rattle.hartley.proofs.paths.Plan.{Plan, Lawful, tip, Climbs}
 use Rattle.hartley.proofs.paths.DownLaw.{Rec}
-use Rattle.hartley.proofs.paths.Paths.{Paths}
+use Rattle.hartley.proofs.paths.Paths.{edge, row, Paths, size}
 use Rattle.hartley.proofs.paths.JournalLinked.{Naming}
-use Rattle.hartley.proofs.invariant.Invariant.{Time, frame-at}
-use Rattle.hartley.proofs.invariant.TableTied.{Table, State, marksOf, named-now, now-one}
-use Rattle.hartley.proofs.bounds.RowsOfALevel.{passes, rows-le}
 use Rattle.hartley.proofs.seams.LongOutline.{Room}
+use Rattle.hartley.proofs.invariant.Invariant.{Time, frame-at}
+use Rattle.hartley.proofs.invariant.TableTied.{Table, State, Tied, marksOf, row-is}
+use Rattle.hartley.proofs.bounds.RowsOfALevel.{passes}
+use Rattle.hartley.proofs.bounds.TwoUnreached.{two-pass, rows-less}
 
 -- the numbers in use of a level, and those of the levels below one
 module _ (used : ℕ → Bool) (level : ℕ → ℕ) where
@@ -44,23 +47,37 @@ module _ (used : ℕ → Bool) (level : ℕ → ℕ) where
       none i = ap (λ b. b && used i) (le-ltb (level i) 0 (omega arith))
   count-under n c h (suc k) = omega (arith, count-under n c h k, h k, count-or (under (suc k)) (under k) (ofLevel k) n (λ i l t. under-next k i t))
 
-module _ {sh : Plan} (N : Lawful sh) {p m n : ℕ} (E : Time sh p m) {T : Table} {J : List Rec} {B : Naming} {G : Paths} (I : State sh p m n T J B G) where
+-- the edge i of the list climbs on s to p, and no row of level 0 has its tip at its bottom
+module _ {sh : Plan} (N : Lawful sh) {p m n : ℕ} (E : Time sh p m) {T Y : Table} {J : List Rec} {B : Naming} {G : Paths} (I : State sh p m Y J B G) (i : ℕ) (K : Tied n T Y B G (edge i)) (s : Side) (l : 0 < size G (edge i)) (climbs : Climbs sh s i)
+    (none : (c : ℕ) → 0 < size G (row c) → marksOf Y .own-level (row c) ≡ 1 → marksOf Y .finished s (row c) ≡ false → tip sh s (G .end s (row c)) ≡ tip sh (otherSide s) i → ⊥) (at-top : tip sh s i ≡ p) where
   abbrev used : ℕ → Bool
   used r = T r .used
 
   abbrev level : ℕ → ℕ
   level r = T r .level
 
-  of-level : (j r : ℕ) → ofLevel used level j r ≡ true → (T r .used ≡ true) × (T r .level ≡ j)
-  of-level j r h = let a = both-true (eqb (level r) j) (used r) h in (a .1, eqb-true (level r) j (a .0))
+  abbrev passing : ℕ
+  passing = count (passes sh p) (sh .list .edges)
 
-  pub level-le : (j : ℕ) → count (ofLevel used level j) n ≤ count (passes sh p) (sh .list .edges)
+  some-pass : 2 ≤ passing
+  some-pass = two-pass N (I .frame .chain) (I .seams) (frame-at N E (I .frame)) (I .frame .edge-finished) s i l climbs none at-top
+
+  -- a row in use by its birth
+  birth : (r : ℕ) (u : T r .used ≡ true) → (b : ℕ) × (B .name b ≡ r) × (0 < size G (row b)) × (T r ≡ Y b)
+  birth r u = let o = K .to-live r u in (o .0, o .3, o .1, row-is (I .one-name) K r u)
+
+  level-le : (j : ℕ) → count (ofLevel used level j) n ≤ passing - 2
   unfolding marksOf
-  level-le j = rows-le N (I .frame .chain) (I .seams) (frame-at N E (I .frame)) n (suc j) (ofLevel used level j) (B .now)
-      (λ q r h k u v e. now-one I q r (of-level j q u .0) (omega (arith, k, I .tab .bounded)) e)
-      (λ r h u d. let o = of-level j r u in ap suc (ap (λ i. T i .level) (named-now I r (o .0)) ∙ o .1))
-      (λ r h u d. rw (of-level j r u .1) at (I .spent .token r (of-level j r u .0) d))
-      (λ q r h k u v d e. I .spent .one q r (of-level j q u .0) (of-level j r v .0) d e (of-level j q u .1 ∙ sym (of-level j r v .1)))
+  level-le j = omega (arith, some-pass, rows-less N (I .frame .chain) (I .seams) (frame-at N E (I .frame)) (I .frame .edge-finished) s i l climbs none at-top n (suc j) (ofLevel used level j) (B .name) live)
+    where
+      live : (r : ℕ) → r < n → ofLevel used level j r ≡ true → (b : ℕ) × (B .name b ≡ r) × (0 < size G (row b)) × (suc (Y b .level) ≡ suc j)
+      live r h u =
+          let a = both-true (eqb (level r) j) (used r) u in
+          let o = birth r (a .1) in
+          (o .0, o .1, o .2, ap suc (sym (ap (λ (v : Row ℕ). v .level) (o .3)) ∙ eqb-true (level r) j (a .0)))
 
-  pub rows-in-use-le : (b : ℕ) → ((l : ℕ) → Room sh l → l ≤ b) → count used n ≤ b * count (passes sh p) (sh .list .edges)
-  rows-in-use-le b most = omega (arith, count-implies used (under used level b) n (λ r l u. rw (lt-ltb (level r) b (omega (arith, most _ (I .rooms r u))), u)), count-under used level n _ level-le b)
+  pub rows-in-use-le : (b : ℕ) → ((l : ℕ) → Room sh l → l ≤ b) → (2 ≤ passing) × (count used n ≤ b * (passing - 2))
+  rows-in-use-le b most = (some-pass, omega (arith, count-implies used (under used level b) n low, count-under used level n (passing - 2) level-le b))
+    where
+      low : (r : ℕ) → r < n → used r ≡ true → under used level b r ≡ true
+      low r h u = let o = birth r u in rw (lt-ltb (level r) b (omega (arith, most _ (I .told (o .0) (o .2) .room), ap (λ (v : Row ℕ). v .level) (o .3))), u)

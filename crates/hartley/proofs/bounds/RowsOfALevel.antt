@@ -1,6 +1,5 @@
--- At any moment the rows in use of a level are at most the edges that pass the sweep's height. From a live row's unfinished end, or its end at p, the seams lead
--- down a level at each step to an edge of the list that passes; on the rows of one level this is one to one. A row that waits has an edge at p to stand for it,
--- whose owner is of a higher level, so no live row of its level leads there.
+-- From a live row's unfinished end, or its end at p, the seams lead down a level at each step to an edge of the list that passes the sweep's height (`reaches`). On
+-- the rows of one level this is one to one (`rel-one`), so there are no more of them than edges that pass.
 use mathlib.Core.Path.{_≡_, refl, ap, sym, _∙_}
 use mathlib.Core.Bool.{Bool, true, false}
 use mathlib.Core.Logic.{_⊎_, inl, inr, ⊎-elim}
@@ -8,38 +7,35 @@ use Prim.Native.Nat.{ℕ, zero, suc, _-_, _≤_, _<_}
 use native.Mathlib.Decide.{ℕ-discrete}
 use native.Mathlib.Omega.{arith}
 use borrow.Author.Tests.{lt-ltb, le-leb}
-use Rattle.laws.specs.Counting.{count}
-use Rattle.laws.proofs.Pigeonhole.{pigeon}
 use Rattle.sheet.specs.Edges.{topHeight, bottomHeight}
 use Rattle.sheet.specs.Passing as sheet
 use Rattle.steps.specs.declared.Side.{Side}
 use Rattle.steps.specs.declared.Side.the-variants.{Rising, Falling}
 use Rattle.steps.specs.Rows.{otherSide}
 use Rattle.hartley.proofs.paths.Plan.{Plan, Lawful, height, tip, Climbs, Joined, joined-tip, level-never}
-use Rattle.hartley.proofs.paths.Paths.{Owner, edge, row, on, Paths, size, Chain}
+use Rattle.hartley.proofs.paths.Paths.{Owner, edge, row, Paths, size, Chain}
 use Rattle.hartley.proofs.seams.Seams.{Marks, Seams, meet-false, end-real, end-spot, one-end, one-heir}
 use Rattle.hartley.proofs.seams.FoundIsJoined.{At}
-use Rattle.hartley.proofs.seams.OneOrigin.{Reach, here, further, reach-one, reach-end}
-use Rattle.hartley.proofs.seams.PassedUpOwnsNothing.{Token}
+use Rattle.hartley.proofs.seams.OneOrigin.{Reach, here, further, reach-one}
 use Rattle.hartley.proofs.invariant.Invariant.{side-cases}
 
 -- an edge of the list passes a place's height
 abbrev pub passes : Plan → ℕ → ℕ → Bool
 passes sh p e = sheet.passes (sh .list) (height sh p) e
 
-passes-to : (sh : Plan) (s : Side) (p e : ℕ) → height sh (tip sh (otherSide s) e) < height sh p → height sh p ≤ height sh (tip sh s e) → passes sh p e ≡ true
+pub passes-to : (sh : Plan) (s : Side) (p e : ℕ) → height sh (tip sh (otherSide s) e) < height sh p → height sh p ≤ height sh (tip sh s e) → passes sh p e ≡ true
 passes-to sh Rising p e a b = rw (lt-ltb (bottomHeight (sh .list) e) (height sh p) (omega arith), le-leb (height sh p) (topHeight (sh .list) e) (omega arith))
 passes-to sh Falling p e a b = rw (lt-ltb (bottomHeight (sh .list) e) (height sh p) (omega arith), le-leb (height sh p) (topHeight (sh .list) e) (omega arith))
 
 -- from an unfinished end, level by level down, to an edge that passes
 module _ {sh : Plan} (N : Lawful sh) {p : ℕ} {G : Paths} {M : Marks} (C : Chain sh G) (S : Seams sh G M) (A : At sh p G M) where
-  abbrev Beyond : Side → Owner → Owner → Type 0
+  abbrev pub Beyond : Side → Owner → Owner → Type 0
   Beyond s x y = (0 < size G x) × (0 < size G y) × Joined sh s (G .end s x) (G .end (otherSide s) y)
 
-  abbrev Tip : Side → Owner → ℕ → Type 0
+  abbrev pub Tip : Side → Owner → ℕ → Type 0
   Tip s x e = (0 < size G x) × (G .end s x ≡ e)
 
-  abbrev To : Side → Owner → ℕ → Type 0
+  abbrev pub To : Side → Owner → ℕ → Type 0
   To s x e = Reach (M .own-level) (Beyond s) (Tip s) x e
 
   abbrev Found : Side → Owner → Type 0
@@ -103,10 +99,10 @@ module _ {sh : Plan} (N : Lawful sh) {p : ℕ} {G : Paths} {M : Marks} (C : Chai
   one-tip s a a′ e t t′ = one-end C s a a′ (t .0) (t′ .0) (t .1 ∙ sym (t′ .1))
 
   -- a live row and an edge that it reaches
-  abbrev Rel : ℕ → ℕ → ℕ → Type 0
+  abbrev pub Rel : ℕ → ℕ → ℕ → Type 0
   Rel j b e = (M .own-level (row b) ≡ j) × ((s : Side) × To s (row b) e × Climbs sh s e)
 
-  rel-one : (j b c e : ℕ) → Rel j b e → Rel j c e → b ≡ c
+  pub rel-one : (j b c e : ℕ) → Rel j b e → Rel j c e → b ≡ c
   rel-one j b c e u v = by (u .1 .0) (v .1 .0) (u .1 .1) (v .1 .1) (u .1 .2) (v .1 .2)
     where
       same : row b ≡ row c → b ≡ c
@@ -121,7 +117,7 @@ module _ {sh : Plan} (N : Lawful sh) {p : ℕ} {G : Paths} {M : Marks} (C : Chai
       by Rising Falling x y k l = absurd (omega arith)
       by Falling Rising x y k l = absurd (omega arith)
 
-  reaches : (j b : ℕ) → 0 < size G (row b) → M .own-level (row b) ≡ j → (e : ℕ) × (e < sh .list .edges) × (passes sh p e ≡ true) × Rel j b e
+  pub reaches : (j b : ℕ) → 0 < size G (row b) → M .own-level (row b) ≡ j → (e : ℕ) × (e < sh .list .edges) × (passes sh p e ≡ true) × Rel j b e
   reaches j b l q = by (M .finished Rising (row b)) (M .finished Falling (row b)) refl refl
     where
       on-side : (s : Side) → Open s (row b) → (e : ℕ) × (e < sh .list .edges) × (passes sh p e ≡ true) × Rel j b e
@@ -131,48 +127,3 @@ module _ {sh : Plan} (N : Lawful sh) {p : ℕ} {G : Paths} {M : Marks} (C : Chai
       by false c e f = on-side Rising (inl e)
       by true false e f = on-side Falling (inl f)
       by true true e f = let r = A .ready b l (side-cases (λ t. M .finished t (row b) ≡ true) Rising e f) in on-side (r .0) (inr (r .1))
-
-  -- the owner of an edge that a row reaches is of no higher level
-  owner : (j b e : ℕ) → Rel j b e → (o : Owner) × (i : ℕ) × (G .spot e ≡ on o i) × (M .own-level o ≤ j)
-  owner j b e a =
-      let s = a .1 .0 in
-      let w = reach-end (M .own-level) (Beyond s) (Tip s) (one-beyond s) (one-tip s) (a .1 .1) in
-      let v = end-spot C s (w .0) (w .1 .0) in
-      (w .0, v .0, ap (G .spot) (sym (w .1 .1)) ∙ v .1, omega (arith, a .0, w .2))
-
-  token-passes : {l : ℕ} (t : Token sh p M G l) → passes sh p (t .it) ≡ true
-  token-passes t = let k = t .top in passes-to sh (k .0) p (t .it) (omega (arith, k .1, ap (height sh) (k .2))) (omega (arith, ap (height sh) (k .2)))
-
-  -- the names in use of a level, each with the birth that it stands for, those that wait among them
-  pub rows-le : (n l : ℕ) (test : ℕ → Bool) (now : ℕ → ℕ) → ((q r : ℕ) → q < n → r < n → test q ≡ true → test r ≡ true → now q ≡ now r → q ≡ r)
-      → ((r : ℕ) → r < n → test r ≡ true → 0 < size G (row (now r)) → M .own-level (row (now r)) ≡ l) → ((r : ℕ) → r < n → test r ≡ true → size G (row (now r)) ≡ 0 → Token sh p M G l)
-      → ((q r : ℕ) → q < n → r < n → test q ≡ true → test r ≡ true → size G (row (now q)) ≡ 0 → size G (row (now r)) ≡ 0 → q ≡ r) → count test n ≤ count (passes sh p) (sh .list .edges)
-  rows-le n l test now apart levels tok one = pigeon R one-to-one test (passes sh p) n (sh .list .edges) give
-    where
-      Live : ℕ → ℕ → Type 0
-      Live r e = (r < n) × (test r ≡ true) × Rel l (now r) e
-
-      Dead : ℕ → ℕ → Type 0
-      Dead r e = (r < n) × (test r ≡ true) × (size G (row (now r)) ≡ 0) × ((t : Token sh p M G l) × (t .it ≡ e))
-
-      R : ℕ → ℕ → Type 0
-      R r e = Live r e ⊎ Dead r e
-
-      clash : (q r e : ℕ) → Live q e → Dead r e → ⊥
-      clash q r e a d =
-          let w = owner l (now q) e (a .2) in
-          let t = d .3 .0 in
-          let k = ap (G .spot) (d .3 .1) in
-          ⊎-elim (λ o. let y : o .0 ≡ w .0 = cc (o .2, k, w .2) in omega (arith, o .3, ap (M .own-level) y, w .3)) (λ o. let z : _≡_ {A = ℕ} 0 1 = cc (o .2, k, w .2) in omega arith) (t .over)
-
-      one-to-one : (q r e : ℕ) → R q e → R r e → q ≡ r
-      one-to-one q r e a b = ⊎-elim
-          (λ u. ⊎-elim (λ v. apart q r (u .0) (v .0) (u .1) (v .1) (rel-one l (now q) (now r) e (u .2) (v .2))) (λ v. absurd (clash q r e u v)) b)
-          (λ u. ⊎-elim (λ v. absurd (clash r q e v u)) (λ v. one q r (u .0) (v .0) (u .1) (v .1) (u .2) (v .2)) b) a
-
-      give : (r : ℕ) → r < n → test r ≡ true → (e : ℕ) × (e < sh .list .edges) × (passes sh p e ≡ true) × R r e
-      give r h u = by (ℕ-discrete (size G (row (now r))) 0)
-        where
-          by : Dec (size G (row (now r)) ≡ 0) → (e : ℕ) × (e < sh .list .edges) × (passes sh p e ≡ true) × R r e
-          by (yes d) = let t = tok r h u d in (t .it, t .real, token-passes t, inr (h, u, d, (t, refl)))
-          by (no d) = let l′ : 0 < size G (row (now r)) = omega arith in let w = reaches l (now r) l′ (levels r h u l′) in (w .0, w .1, w .2, inl (h, u, w .3))

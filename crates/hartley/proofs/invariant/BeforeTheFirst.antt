@@ -1,12 +1,12 @@
--- Before the first edge the invariant holds: every edge is its own path, no row is in use, and each name stands for a birth of its own that was never opened.
+-- Before the first edge the invariant holds: every edge is its own path, and no row was ever opened.
 use mathlib.Core.Path.{_≡_, refl, ap, sym, _∙_}
 use mathlib.Core.Bool.{false}
 use mathlib.Core.List.{[]}
-use Prim.Native.Nat.{ℕ, suc, _+_, _*_, _≤_, _<_}
+use Prim.Native.Nat.{ℕ, _+_, _*_, _≤_, _<_}
 use native.Mathlib.Decide.{decLt}
 use native.Mathlib.Omega.{arith}
+use Rattle.laws.specs.Counting.{count}
 use Rattle.laws.proofs.Deciding.{not-both}
-use Rattle.laws.proofs.Counting.{count-none}
 use Rattle.steps.specs.declared.Side.{Side}
 use Rattle.steps.specs.declared.Side.the-variants.{Rising, Falling}
 use Rattle.hartley.proofs.paths.Plan.{Plan, Lawful}
@@ -14,10 +14,10 @@ use Rattle.hartley.proofs.paths.Differences.{pos-diff}
 use Rattle.hartley.proofs.paths.DownLaw.{ofEdge, pick, place, at}
 use Rattle.hartley.proofs.paths.Paths.{Owner, edge, row, Spot, on, out, off, Paths, bySide, size, Chain, pick-yes, on-eq}
 use Rattle.hartley.proofs.paths.Outlines.{Outs}
-use Rattle.hartley.proofs.paths.RecordsCounted.{puts, closes, passed, branches, some?}
+use Rattle.hartley.proofs.paths.RecordsCounted.{puts, closes, passed, branches}
 use Rattle.hartley.proofs.paths.JournalLinked.{Naming, toPlace}
 use Rattle.hartley.proofs.seams.Seams.{Seam, both-sides}
-use Rattle.hartley.proofs.invariant.TableTied.{Table, State, marksOf, rowLengths}
+use Rattle.hartley.proofs.invariant.TableTied.{Table, State, Tied, marksOf, rowLengths}
 
 -- the edge that an owner is; rows have none
 abbrev itself : Owner → ℕ
@@ -36,9 +36,9 @@ start edges = record {
   rounds = record { count = 0; edges-in = λ k. 0; lead = λ k. 0; rear = λ k. 0 };
 }
 
--- each name stands for a birth that will not be opened
-abbrev pub unborn : ℕ → Naming
-unborn n = record { now = λ r. r; name = λ b. b; born = suc n; bound = suc n }
+-- no births
+abbrev pub unborn : Naming
+unborn = record { name = λ b. b; born = 0 }
 
 data Began (cnt e : ℕ) : Spot → Type 0 where
   real : e < cnt → Began cnt e (on (edge e) 0)
@@ -126,31 +126,31 @@ module _ (sh : Plan) where
     order = λ j k d l. absurd (omega arith);
   }
 
-  nothing-paid : (n : ℕ) → 2 * passed [] + branches (rowLengths G (unborn n)) n ≤ puts []
-  unfolding passed puts branches start some?
-  nothing-paid n = omega (arith, count-none (λ r. some? (rowLengths G (unborn n) Falling r)) n (λ r l. refl), count-none (λ r. some? (rowLengths G (unborn n) Rising r)) n (λ r l. refl))
+  nothing-paid : 2 * passed [] + branches (rowLengths G) 0 ≤ puts []
+  unfolding passed puts branches count
+  nothing-paid = omega arith
 
   nothing-shut : closes [] ≡ G .rounds .count
   unfolding closes start
   nothing-shut = refl
 
-  tie : (n e : ℕ) → e < sh .list .edges → place [] (ofEdge e) ≡ toPlace (unborn n) G (G .spot e)
-  tie n e h = rw (spot-real e h) (at-start e)
+  tie : (e : ℕ) → e < sh .list .edges → place [] (ofEdge e) ≡ toPlace unborn G (G .spot e)
+  tie e h = rw (spot-real e h) (at-start e)
     where
-      at-start : (e : ℕ) → place [] (ofEdge e) ≡ toPlace (unborn n) G (on (edge e) 0)
+      at-start : (e : ℕ) → place [] (ofEdge e) ≡ toPlace unborn G (on (edge e) 0)
       at-start e = unfold place toPlace start in ap (at (ofEdge e)) (pos-diff 0)
 
-  no-row : (r : ℕ) → 0 < size G (row r) → ⊥
+  pub no-row : (r : ℕ) → 0 < size G (row r) → ⊥
   no-row r h = let a = size-one (row r) h in let q = a .1 in let z : _≡_ {A = ℕ} 0 1 = cc in omega arith
 
   end-is : (s : Side) (a : ℕ) → G .end s (edge a) ≡ a
   unfolding start
   end-is s a = refl
 
-  -- whatever the table, if no row of it is in use
-  pub begin : Lawful sh → (p n : ℕ) (T : Table) → ((r : ℕ) → T r .used ≡ false) → State sh p 1 n T [] (unborn n) G
+  -- whatever rows there are
+  pub begin : Lawful sh → (p : ℕ) (Y : Table) → State sh p 1 Y [] unborn G
   unfolding marksOf
-  begin N p n T free = record {
+  begin N p Y = record {
     frame = record {
       chain = chain;
       outs = nothing;
@@ -162,24 +162,21 @@ module _ (sh : Plan) where
       edge-finished = λ a s. refl;
     };
     seams = both-sides N chain (nothing {m = 1}) Rising (λ w h. let a = size-one w h in seam w (a .0) (a .1) (a .2));
-    tab = record {
-      of-live = λ b h. absurd (no-row b h);
-      to-live = λ r u s f. absurd (not-both u (free r));
-      below = λ r u. absurd (not-both u (free r));
-      own = λ r h. (refl, h);
-      bounded = omega arith;
-    };
-    linked = tie n;
-    spent = record { token = λ r u d. absurd (not-both u (free r)); one = λ q r u v d e w. absurd (not-both u (free q)) };
-    rooms = λ r u. absurd (not-both u (free r));
-    paid = nothing-paid n;
+    told = λ b h. absurd (no-row b h);
+    one-name = λ b c h k q. absurd (no-row b h);
+    linked = tie;
+    paid = nothing-paid;
     shuts = nothing-shut;
   }
     where
-      seam : (w : Owner) (a : ℕ) → w ≡ edge a → a < sh .list .edges → Seam sh Rising G (marksOf T (unborn n)) w
+      seam : (w : Owner) (a : ℕ) → w ≡ edge a → a < sh .list .edges → Seam sh Rising G (marksOf Y) w
       seam w a q h = rw q (record {
         heir = edge (sh .next a);
         alive = omega (arith, size-edge (sh .next a) (N .inside a h));
         joined = ap (sh .next) (end-is Rising a) ∙ sym (end-is Falling (sh .next a));
         meet = refl;
       })
+
+  -- a table of which no row is in use
+  pub begin-tied : (n : ℕ) (T Y : Table) (a : ℕ) → ((r : ℕ) → T r .used ≡ false) → Tied n T Y unborn G (edge a)
+  begin-tied n T Y a free = record { of-live = λ b h d. absurd (no-row b h); to-live = λ r u. absurd (not-both u (free r)); named = λ b h. absurd (no-row b h) }

@@ -3,7 +3,7 @@
 use mathlib.Core.Path.{_≡_, refl, ap, sym, _∙_}
 use mathlib.Core.Bool.{Bool, true, false}
 use mathlib.Core.Logic.{_⊎_, ⊎-elim}
-use Prim.Native.Nat.{ℕ, _+_}
+use Prim.Native.Nat.{ℕ, _+_, _<_}
 use Rattle.laws.proofs.Deciding.{eq-or-ne}
 use Rattle.steps.specs.declared.Side.{Side}
 use Rattle.steps.specs.declared.Side.the-variants.{Rising, Falling}
@@ -16,7 +16,9 @@ use Rattle.hartley.proofs.paths.DownLaw.{pick, put}
 use Rattle.hartley.proofs.paths.TableWritten.{put-at, put-off}
 use Rattle.hartley.proofs.seams.Seams.{finishedNow}
 use Rattle.hartley.proofs.invariant.Invariant.{side-cases}
-use Rattle.hartley.proofs.invariant.TableTied.{Table}
+use Rattle.hartley.proofs.paths.Paths.{Owner, row, Paths, size}
+use Rattle.hartley.proofs.paths.JournalLinked.{Naming}
+use Rattle.hartley.proofs.invariant.TableTied.{Table, Tied, tie-write}
 
 -- step 3, and the ends that step 4 finishes
 abbrev pub longerBranch : Side → Row ℕ → LevelEdge ℕ → Branch ℕ
@@ -33,6 +35,20 @@ finishing s T r = plain.put T r (marked s (T r))
 
 abbrev pub matched : Side → Table → ℕ → ℕ → Table
 matched s T r q = finishing s (finishing (otherSide s) T q) r
+
+-- the table and the births written alike
+module _ {n : ℕ} {T Y : Table} {B : Naming} {G : Paths} {x : Owner} (one-name : (b c : ℕ) → 0 < size G (row b) → 0 < size G (row c) → B .name b ≡ B .name c → b ≡ c) (K : Tied n T Y B G x) (c : ℕ) (l : 0 < size G (row c)) (d : row c ≡ x → ⊥) (r : ℕ) (q : B .name c ≡ r) where
+  same-row : T r ≡ Y c
+  same-row = ap T (sym q) ∙ K .of-live c l d .1
+
+  in-use : Y c .used ≡ true
+  in-use = sym (ap (λ (v : Row ℕ). v .used) (K .of-live c l d .1)) ∙ K .of-live c l d .0
+
+  pub tie-lengthened : (s : Side) (e : LevelEdge ℕ) → Tied n (lengthened s T r e) (lengthened s Y c e) B G x
+  tie-lengthened s e = rw same-row (tie-write one-name K c l d r q (withBranch (Y c) s (longerBranch s (Y c) e)) in-use)
+
+  pub tie-finishing : (s : Side) → Tied n (finishing s T r) (finishing s Y c) B G x
+  tie-finishing s = rw same-row (tie-write one-name K c l d r q (marked s (Y c)) in-use)
 
 -- a row's branches
 pub on-this : {A : Type 0} (s : Side) (a : A) (b : Both A) → on s (with s a b) ≡ a

@@ -1,37 +1,27 @@
--- What treating an edge of a level leaves alone. Rows of an own level up to j are not changed, and no path of one but the edge's own; rows that are whole, and rows
--- that wait, are of low levels. Passing up a row leaves as much of the others.
-use mathlib.Core.Path.{_≡_, refl}
-use mathlib.Core.Bool.{true, false}
-use mathlib.Core.Logic.{_⊎_, inl}
-use Prim.Native.Nat.{ℕ, suc, _-_, _≤_, _<_}
+-- What treating an edge of a level leaves alone. Live rows of an own level up to j are not changed, nor their paths, but for the edge's own; rows that are whole are
+-- of low levels. Passing up a row leaves as much of the others.
+use mathlib.Core.Path.{_≡_, refl, _∙_}
+use mathlib.Core.Bool.{true}
+use mathlib.Core.List.{List}
+use Prim.Native.Nat.{ℕ, suc, _≤_, _<_}
 use native.Mathlib.Omega.{arith}
 use Rattle.steps.specs.declared.Side.{Side}
 use Rattle.steps.specs.declared.Side.the-variants.{Rising, Falling}
 use Rattle.steps.specs.Rows.{on, Row}
+use Rattle.hartley.proofs.paths.Plan.{Plan}
+use Rattle.hartley.proofs.paths.DownLaw.{Rec}
+use Rattle.hartley.proofs.paths.TableWritten.{put-off}
 use Rattle.hartley.proofs.paths.Paths.{Owner, edge, row, Paths, size}
 use Rattle.hartley.proofs.paths.JournalLinked.{Naming}
-use Rattle.hartley.proofs.invariant.TableTied.{Table}
+use Rattle.hartley.proofs.invariant.TableTied.{Table, State, B′, Y′, live-row}
 
 -- both ends finished
-pub record Whole (v : Row ℕ) : Type 0 where
-  pub used : v .used ≡ true
-  pub finished : (s : Side) → on s (v .branch) .finished ≡ true
+abbrev pub Whole : Row ℕ → Type 0
+Whole v = (s : Side) → on s (v .branch) .finished ≡ true
 
--- in use, with an own level up to j
-pub record Low (j : ℕ) (v : Row ℕ) : Type 0 where
-  pub used : v .used ≡ true
-  pub level-le : suc (v .level) ≤ j
-
--- what waits while an edge of the level j is treated: whole rows are of own levels up to j, rows that own nothing below it
-abbrev pub WholeBy : ℕ → Table → Naming → Paths → Type 0
-WholeBy j T B G = (r : ℕ) → 0 < size G (row (B .now r)) → Whole (T r) → suc (T r .level) ≤ j
-
-abbrev pub Idle : ℕ → Table → Naming → Paths → Type 0
-Idle j T B G = (r : ℕ) → T r .used ≡ true → size G (row (B .now r)) ≡ 0 → suc (T r .level) < j
-
-pub record Clean (j : ℕ) (T : Table) (B : Naming) (G : Paths) : Type 0 where
-  pub whole : WholeBy j T B G
-  pub idle : Idle j T B G
+-- while an edge of the level j is treated live rows that are whole are of own levels up to j
+abbrev pub WholeBy : ℕ → Table → Paths → Type 0
+WholeBy j Y G = (b : ℕ) → 0 < size G (row b) → Whole (Y b) → suc (Y b .level) ≤ j
 
 abbrev pub SamePath : Paths → Paths → Owner → Type 0
 SamePath G G′ y = ((s : Side) → G′ .length s y ≡ G .length s y) × ((s : Side) → G′ .end s y ≡ G .end s y)
@@ -40,27 +30,42 @@ pub same-size : (G G′ : Paths) (y : Owner) → SamePath G G′ y → size G′
 unfolding size
 same-size G G′ y h = omega (arith, h .0 Rising, h .0 Falling)
 
--- what treating an edge x of the level j leaves as it was
-pub record Kept (j : ℕ) (x : Owner) (T T′ : Table) (B B′ : Naming) (G G′ : Paths) : Type 0 where
-  pub rows : (r : ℕ) → Low j (T r) → T′ r ≡ T r
-  pub back : (r : ℕ) → Low j (T′ r) → T′ r ≡ T r
-  pub births : (r : ℕ) → Low j (T r) → B′ .now r ≡ B .now r
-  pub paths : (r : ℕ) → Low j (T r) → (row (B .now r) ≡ x → ⊥) → SamePath G G′ (row (B .now r))
+-- live rows of own levels up to j, but for x, stay, and there are no others of these levels afterwards; the first k births keep their names, and what is gone of them
+-- does not come back
+pub record Stays (j : ℕ) (x : Owner) (k : ℕ) (Y Y′ : Table) (B B′ : Naming) (G G′ : Paths) : Type 0 where
+  pub rows : (b : ℕ) → 0 < size G (row b) → suc (Y b .level) ≤ j → (row b ≡ x → ⊥) → (Y′ b ≡ Y b) × SamePath G G′ (row b)
+  pub back : (b : ℕ) → 0 < size G′ (row b) → suc (Y′ b .level) ≤ j → (0 < size G (row b)) × (Y′ b ≡ Y b)
+  pub names : (b : ℕ) → b < k → B′ .name b ≡ B .name b
+  pub dead : (b : ℕ) → b < k → size G (row b) ≡ 0 → size G′ (row b) ≡ 0
+  pub grows : k ≤ B′ .born
   pub edges : (a : ℕ) → (edge a ≡ x → ⊥) → size G′ (edge a) ≡ size G (edge a)
+  pub whole : WholeBy j Y′ G′
+
+-- what treating an edge x of the level j leaves as it was
+pub record Kept (j : ℕ) (x : Owner) (k : ℕ) (Y Y′ : Table) (B B′ : Naming) (G G′ : Paths) : Type 0 where
+  pub stays : Stays j x k Y Y′ B B′ G G′
   pub gone : size G′ x ≡ 0
-  pub whole : WholeBy j T′ B′ G′
-  pub idle : Idle (suc j) T′ B′ G′
 
--- what passing up the row q leaves
-pub record Passed (j q : ℕ) (T T′ : Table) (B B′ : Naming) (G G′ : Paths) : Type 0 where
-  pub rows : (r : ℕ) → (r ≡ q → ⊥) → Low j (T r) → T′ r ≡ T r
-  pub back : (r : ℕ) → (r ≡ q → ⊥) → Low j (T′ r) → T′ r ≡ T r
-  pub births : (r : ℕ) → Low j (T r) → B′ .now r ≡ B .now r
-  pub paths : (r : ℕ) → (r ≡ q → ⊥) → Low j (T r) → SamePath G G′ (row (B .now r))
-  pub edges : (a : ℕ) → size G′ (edge a) ≡ size G (edge a)
-  pub self : ((Whole (T q) → ⊥) × (T′ q ≡ T q)) ⊎ (T′ q .used ≡ false)
-  pub clean : Clean j T′ B′ G′
+-- what passing up the row c, if it is whole, leaves
+pub record Passed (j c : ℕ) (Y Y′ : Table) (B B′ : Naming) (G G′ : Paths) : Type 0 where
+  pub stays : Stays j (row c) (B .born) Y Y′ B B′ G G′
+  pub self : Whole (Y c) → size G′ (row c) ≡ 0
 
--- a row that is not whole is not passed up
-pub skipped : {q : ℕ} {T : Table} {B : Naming} → (Whole (T q) → ⊥) → (j : ℕ) (G : Paths) → Clean j T B G → Passed j q T T B B G G
-skipped h j G K = record { rows = λ r d l. refl; back = λ r d l. refl; births = λ r l. refl; paths = λ r d l. ((λ s. refl), λ s. refl); edges = λ a. refl; self = inl (h, refl); clean = K }
+-- nothing done
+pub untouched : {Y : Table} {B : Naming} {x : Owner} (j : ℕ) (G : Paths) → WholeBy j Y G → Stays j x (B .born) Y Y B B G G
+untouched j G K = record { rows = λ b l h d. (refl, ((λ s. refl), λ s. refl)); back = λ b l h. (l, refl); names = λ b l. refl; dead = λ b l h. h; grows = omega arith; edges = λ a h. refl; whole = K }
+
+-- a row opened under the name r has a new birth, which changes nothing of the others
+pub reborn-kept : {sh : Plan} {p m : ℕ} {Y : Table} {J : List Rec} {B : Naming} {G : Paths} (I : State sh p m Y J B G) (r : ℕ) (v : Row ℕ) {j : ℕ} {x : Owner} {Y₁ : Table} {B₁ : Naming} {G₁ : Paths} → Kept j x (B .born) (Y′ I r v) Y₁ (B′ I r v) B₁ G G₁ → Kept j x (B .born) Y Y₁ B B₁ G G₁
+reborn-kept {Y = Y} {B = B} I r v K = record {
+  stays = record {
+    rows = λ b l h d. let w = live-row I r v b l in let o = K .stays .rows b l (rw w h) d in (o .0 ∙ w, o .1);
+    back = λ b l h. let o = K .stays .back b l h in (o .0, o .1 ∙ live-row I r v b (o .0));
+    names = λ b l. K .stays .names b l ∙ put-off (B .name) (B .born) b r (λ e. omega arith);
+    dead = K .stays .dead;
+    grows = K .stays .grows;
+    edges = K .stays .edges;
+    whole = K .stays .whole;
+  };
+  gone = K .gone;
+}

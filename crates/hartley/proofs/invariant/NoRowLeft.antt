@@ -17,21 +17,18 @@ use Rattle.hartley.proofs.invariant.Invariant.{Time, side-cases, frame-
 use Rattle.hartley.proofs.invariant.TableTied.{Table, State, marksOf}
 use Rattle.hartley.proofs.invariant.LeftAlone.{WholeBy}
 
-module _ {sh : Plan} (N : Lawful sh) {p m n : ℕ} (E : Time sh p m) {T : Table} {J : List Rec} {B : Naming} {G : Paths} (I : State sh p m n T J B G) (all : (a : ℕ) → size G (edge a) ≡ 0) (K : WholeBy 0 T B G) where
-  unfinished : (b : ℕ) → 0 < size G (row b) → (s : Side) × (marksOf T B .finished s (row b) ≡ false)
+module _ {sh : Plan} (N : Lawful sh) {p m : ℕ} (E : Time sh p m) {Y : Table} {J : List Rec} {B : Naming} {G : Paths} (I : State sh p m Y J B G) (all : (a : ℕ) → size G (edge a) ≡ 0) (K : WholeBy 0 Y G) where
+  unfinished : (b : ℕ) → 0 < size G (row b) → (s : Side) × (marksOf Y .finished s (row b) ≡ false)
   unfolding marksOf
-  unfinished b l = by (on Rising (T (B .name b) .branch) .finished) (on Falling (T (B .name b) .branch) .finished) refl refl
+  unfinished b l = by (on Rising (Y b .branch) .finished) (on Falling (Y b .branch) .finished) refl refl
     where
-      by : (a c : Bool) → on Rising (T (B .name b) .branch) .finished ≡ a → on Falling (T (B .name b) .branch) .finished ≡ c → (s : Side) × (on s (T (B .name b) .branch) .finished ≡ false)
+      by : (a c : Bool) → on Rising (Y b .branch) .finished ≡ a → on Falling (Y b .branch) .finished ≡ c → (s : Side) × (on s (Y b .branch) .finished ≡ false)
       by false c e f = (Rising, e)
       by true false e f = (Falling, f)
-      by true true e f =
-          let o = I .tab .of-live b l in
-          let live : 0 < size G (row (B .now (B .name b))) = rw (o .here) l in
-          absurd (omega (arith, K (B .name b) live (record { used = o .used; finished = side-cases (λ s. on s (T (B .name b) .branch) .finished ≡ true) Rising e f })))
+      by true true e f = absurd (omega (arith, K b l (side-cases (λ s. on s (Y b .branch) .finished ≡ true) Rising e f)))
 
   pub none-live : (x : Owner) → 0 < size G x → ⊥
-  none-live x l = none-left N (I .frame .chain) (I .seams) (frame-at N E (I .frame)) all unfinished (marksOf T B .own-level x) x refl l
+  none-live x l = none-left N (I .frame .chain) (I .seams) (frame-at N E (I .frame)) all unfinished (marksOf Y .own-level x) x refl l
 
   pub closed-all : (e : ℕ) → e < sh .list .edges → (k : ℕ) × (i : ℕ) × (G .spot e ≡ out k i)
   closed-all e h = by (G .spot e) refl

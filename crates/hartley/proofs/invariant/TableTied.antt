@@ -1,71 +1,63 @@
--- The table of rows tied to the paths. A row in use with an unfinished end has a live path; what the table says of a live row's lengths, tips, level and finished
--- ends is so of its path; rows in use whose path went up wait, one a level at most, each with an edge to stand for it. `State` is the whole invariant, with the
--- records read as places, paid for, and with a name for each birth.
+-- The rows tied to the paths. The theory knows a row by its birth, and keeps what every row was when last written, also when it is freed: `State` is the invariant
+-- over these rows, with the records read as places, paid for, and with names that tell live births apart. `Tied` says what the table of rows holds of it: the
+-- rows in use are the live ones but for the one in hand, which is freed before it is passed up, so that its name may be open again while its edge is treated.
 use mathlib.Core.Path.{_≡_, refl, ap, sym, _∙_}
-use mathlib.Core.Bool.{true, false}
+use mathlib.Core.Bool.{true}
 use mathlib.Core.List.{List}
 use mathlib.Core.Logic.{_⊎_, ⊎-elim}
 use Prim.Native.Nat.{ℕ, suc, _+_, _*_, _≤_, _<_}
 use native.Mathlib.Omega.{arith}
+use Rattle.laws.specs.Counting.{bit, count}
 use Rattle.laws.proofs.Deciding.{lt-or-le, eq-or-ne, not-both}
 use Rattle.steps.specs.declared.Side.{Side}
 use Rattle.steps.specs.declared.Side.the-variants.{Rising, Falling}
 use Rattle.steps.specs.Rows.{otherSide, on, Row}
-use Rattle.steps.specs.Plain.{put}
+use Rattle.steps.specs.Plain.{put, freeRow}
 use Rattle.hartley.proofs.paths.Plan.{Plan, tip}
 use Rattle.hartley.proofs.paths.DownLaw.{Rec}
 use Rattle.hartley.proofs.paths.TableWritten.{put-at, put-off}
 use Rattle.hartley.proofs.paths.Paths.{Owner, edge, row, Spot, on as onOwner, Paths, size}
 use Rattle.hartley.proofs.paths.JournalLinked.{Naming, nameOf, Linked, Alone, toPlace}
 use Rattle.hartley.proofs.seams.Seams.{Marks, Seams}
-use Rattle.hartley.proofs.seams.PassedUpOwnsNothing.{Token, token-remark}
 use Rattle.hartley.proofs.seams.LongOutline.{Room}
-use Rattle.hartley.proofs.paths.RecordsCounted.{puts, closes, passed, branches, branches-same}
+use Rattle.hartley.proofs.paths.RecordsCounted.{puts, closes, passed, branches, some?}
 use Rattle.hartley.proofs.invariant.Invariant.{Frame}
 
+-- rows by their names, or by their births
 abbrev pub Table : Type 0
 Table = ℕ → Row ℕ
 
--- the marks that a table gives
-unfoldable pub marksOf : Table → Naming → Marks
-marksOf T B = record {
-  own-level = elim [ edge e ↦ 0 | row b ↦ suc (T (B .name b) .level) ];
-  finished = λ s. elim [ edge e ↦ true | row b ↦ on s (T (B .name b) .branch) .finished ];
+-- the marks that rows by their births give
+unfoldable pub marksOf : Table → Marks
+marksOf Y = record {
+  own-level = elim [ edge e ↦ 0 | row b ↦ suc (Y b .level) ];
+  finished = λ s. elim [ edge e ↦ true | row b ↦ on s (Y b .branch) .finished ];
 }
 
--- what the table says of a live row
-pub record Told (sh : Plan) (T : Table) (B : Naming) (G : Paths) (b : ℕ) : Type 0 where
-  pub here : B .now (B .name b) ≡ b
-  pub used : T (B .name b) .used ≡ true
-  pub length : (s : Side) → on s (T (B .name b) .branch) .length ≡ G .length s (row b)
-  pub tip-is : (s : Side) → on s (T (B .name b) .branch) .tip ≡ tip sh s (G .end s (row b))
+-- what is told of a live row
+pub record Told (sh : Plan) (Y : Table) (B : Naming) (G : Paths) (b : ℕ) : Type 0 where
+  pub length : (s : Side) → on s (Y b .branch) .length ≡ G .length s (row b)
+  pub tip-is : (s : Side) → on s (Y b .branch) .tip ≡ tip sh s (G .end s (row b))
+  pub room : Room sh (suc (Y b .level))
   pub young : b < B .born
 
-pub record Tab (sh : Plan) (n : ℕ) (T : Table) (B : Naming) (G : Paths) : Type 0 where
-  pub of-live : (b : ℕ) → 0 < size G (row b) → Told sh T B G b
-  pub to-live : (r : ℕ) → T r .used ≡ true → (s : Side) → on s (T r .branch) .finished ≡ false → 0 < size G (row (B .now r))
-  pub below : (r : ℕ) → T r .used ≡ true → r < n
-  -- each name that may be opened is that of the birth it stands for
-  pub own : (r : ℕ) → r < B .bound → (B .name (B .now r) ≡ r) × (B .now r < B .born)
-  pub bounded : n ≤ B .bound
+abbrev pub rowLengths : Paths → Side → ℕ → ℕ
+rowLengths G s b = G .length s (row b)
 
--- rows in use that own nothing any more: each has an edge to stand for it, and a level has one at most
-pub record Spent (sh : Plan) (p : ℕ) (T : Table) (B : Naming) (G : Paths) : Type 0 where
-  pub token : (r : ℕ) → T r .used ≡ true → size G (row (B .now r)) ≡ 0 → Token sh p (marksOf T B) G (suc (T r .level))
-  pub one : (q r : ℕ) → T q .used ≡ true → T r .used ≡ true → size G (row (B .now q)) ≡ 0 → size G (row (B .now r)) ≡ 0 → T q .level ≡ T r .level → q ≡ r
-
-abbrev pub rowLengths : Paths → Naming → Side → ℕ → ℕ
-rowLengths G B s r = G .length s (row (B .now r))
-
-pub record State (sh : Plan) (p m n : ℕ) (T : Table) (J : List Rec) (B : Naming) (G : Paths) : Type 0 where
-  pub frame : Frame sh p m G (marksOf T B)
-  pub seams : Seams sh G (marksOf T B)
-  pub tab : Tab sh n T B G
+pub record State (sh : Plan) (p m : ℕ) (Y : Table) (J : List Rec) (B : Naming) (G : Paths) : Type 0 where
+  pub frame : Frame sh p m G (marksOf Y)
+  pub seams : Seams sh G (marksOf Y)
+  pub told : (b : ℕ) → 0 < size G (row b) → Told sh Y B G b
+  pub one-name : (b c : ℕ) → 0 < size G (row b) → 0 < size G (row c) → B .name b ≡ B .name c → b ≡ c
   pub linked : Linked sh J B G
-  pub spent : Spent sh p T B G
-  pub rooms : (r : ℕ) → T r .used ≡ true → Room sh (suc (T r .level))
-  pub paid : 2 * passed J + branches (rowLengths G B) n ≤ puts J
+  pub paid : 2 * passed J + branches (rowLengths G) (B .born) ≤ puts J
   pub shuts : closes J ≡ G .rounds .count
+
+-- the table T of n rows: those in use are the live ones but for x, each as it was last written
+pub record Tied (n : ℕ) (T Y : Table) (B : Naming) (G : Paths) (x : Owner) : Type 0 where
+  pub of-live : (b : ℕ) → 0 < size G (row b) → (row b ≡ x → ⊥) → (T (B .name b) .used ≡ true) × (T (B .name b) ≡ Y b)
+  pub to-live : (r : ℕ) → T r .used ≡ true → (b : ℕ) × (0 < size G (row b)) × (row b ≡ x → ⊥) × (B .name b ≡ r)
+  pub named : (b : ℕ) → 0 < size G (row b) → B .name b < n
 
 -- marks count only at live owners
 pub record Agree (G : Paths) (M M′ : Marks) : Type 0 where
@@ -95,94 +87,64 @@ remark-seams A S s w l =
     let t = S s w l in
     record { heir = t .heir; alive = t .alive; joined = t .joined; meet = rw (A .ends w l s, A .ends (t .heir) (t .alive) (otherSide s), A .levels w l, A .levels (t .heir) (t .alive)) (t .meet) }
 
--- tables and names that tell the same of live rows
-pub agree-rows : (G : Paths) (T T′ : Table) (B B′ : Naming) → ((b : ℕ) → 0 < size G (row b) → (T′ (B′ .name b) .level ≡ T (B .name b) .level) × ((s : Side) → on s (T′ (B′ .name b) .branch) .finished ≡ on s (T (B .name b) .branch) .finished))
-    → Agree G (marksOf T B) (marksOf T′ B′)
+-- rows that tell the same of live births
+pub agree-rows : (G : Paths) (Y Y′ : Table) → ((b : ℕ) → 0 < size G (row b) → (Y′ b .level ≡ Y b .level) × ((s : Side) → on s (Y′ b .branch) .finished ≡ on s (Y b .branch) .finished)) → Agree G (marksOf Y) (marksOf Y′)
 unfolding marksOf
-agree-rows G T T′ B B′ h = record { levels = levels′; ends = ends′; edge-levels = λ a. refl; edge-ends = λ a s. refl }
+agree-rows G Y Y′ h = record { levels = levels′; ends = ends′; edge-levels = λ a. refl; edge-ends = λ a s. refl }
   where
-    levels′ : (y : Owner) → 0 < size G y → marksOf T′ B′ .own-level y ≡ marksOf T B .own-level y
+    levels′ : (y : Owner) → 0 < size G y → marksOf Y′ .own-level y ≡ marksOf Y .own-level y
     levels′ (edge a) l = refl
     levels′ (row b) l = ap suc (h b l .0)
 
-    ends′ : (y : Owner) → 0 < size G y → (s : Side) → marksOf T′ B′ .finished s y ≡ marksOf T B .finished s y
+    ends′ : (y : Owner) → 0 < size G y → (s : Side) → marksOf Y′ .finished s y ≡ marksOf Y .finished s y
     ends′ (edge a) l s = refl
     ends′ (row b) l s = h b l .1 s
 
-module _ {sh : Plan} {p m n : ℕ} {T : Table} {J : List Rec} {B : Naming} {G : Paths} (I : State sh p m n T J B G) where
-  -- a free row has no path
-  pub dead-row : (r : ℕ) → r < B .bound → T r .used ≡ false → size G (row (B .now r)) ≡ 0
-  dead-row r l u = ⊎-elim
-      (λ h. let o = I .tab .of-live (B .now r) h in absurd (not-both (sym (ap (λ i. T i .used) (I .tab .own r l .0)) ∙ o .used) u))
-      (λ h. omega arith)
-      (lt-or-le 0 (size G (row (B .now r))))
+pub names-apart : {sh : Plan} {p m : ℕ} {Y : Table} {J : List Rec} {B : Naming} {G : Paths} → State sh p m Y J B G → (x : Owner) → 0 < size G x → Alone B G x
+names-apart {B = B} {G = G} I x lx y ly d e = by x y lx ly d e
+  where
+    by : (x y : Owner) → 0 < size G x → 0 < size G y → (y ≡ x → ⊥) → nameOf B y ≡ nameOf B x → ⊥
+    by (edge a) (edge c) l m d e = d (cc)
+    by (edge a) (row c) l m d e = let z : _≡_ {A = ℕ} 0 1 = cc in omega arith
+    by (row b) (edge c) l m d e = let z : _≡_ {A = ℕ} 0 1 = cc in omega arith
+    by (row b) (row c) l m d e = let q : B .name c ≡ B .name b = cc in d (ap row (I .one-name c b m l q))
 
-  -- the row of a name is known by it
-  pub named-now : (r : ℕ) → T r .used ≡ true → B .name (B .now r) ≡ r
-  named-now r u = I .tab .own r (omega (arith, I .tab .below r u, I .tab .bounded)) .0
-
-  pub now-one : (q r : ℕ) → T q .used ≡ true → r < B .bound → B .now q ≡ B .now r → q ≡ r
-  now-one q r u l e = sym (named-now q u) ∙ ap (B .name) e ∙ I .tab .own r l .0
-
-  pub names-apart : (x : Owner) → 0 < size G x → Alone B G x
-  names-apart x lx y ly d e = by x y lx ly d e
-    where
-      by : (x y : Owner) → 0 < size G x → 0 < size G y → (y ≡ x → ⊥) → nameOf B y ≡ nameOf B x → ⊥
-      by (edge a) (edge c) l m d e = d (cc)
-      by (edge a) (row c) l m d e = let z : _≡_ {A = ℕ} 0 1 = cc in omega arith
-      by (row b) (edge c) l m d e = let z : _≡_ {A = ℕ} 0 1 = cc in omega arith
-      by (row b) (row c) l m d e = let q : B .name c ≡ B .name b = cc in d (ap row (sym (I .tab .of-live c m .here) ∙ ap (B .now) q ∙ I .tab .of-live b l .here))
-
--- a birth that was never used, for a name that is opened
+-- a birth that was never used, for a row that is opened under the name r
 abbrev pub reborn : Naming → ℕ → Naming
-reborn B r = record { now = put (B .now) r (B .born); name = put (B .name) (B .born) r; born = suc (B .born); bound = B .bound }
+reborn B r = record { name = put (B .name) (B .born) r; born = suc (B .born) }
 
-module _ {sh : Plan} {p m n : ℕ} {T : Table} {J : List Rec} {B : Naming} {G : Paths} (I : State sh p m n T J B G) (r : ℕ) (l : r < n) (free : T r .used ≡ false) where
-  abbrev B′ : Naming
+module _ {sh : Plan} {p m : ℕ} {Y : Table} {J : List Rec} {B : Naming} {G : Paths} (I : State sh p m Y J B G) (r : ℕ) (v : Row ℕ) where
+  abbrev pub B′ : Naming
   B′ = reborn B r
 
-  bound : r < B .bound
-  bound = omega (arith, I .tab .bounded)
+  abbrev pub Y′ : Table
+  Y′ = put Y (B .born) v
 
-  other-name : (q : ℕ) → T q .used ≡ true → q ≡ r → ⊥
-  other-name q u e = not-both (sym (ap (λ i. T i .used) e) ∙ u) free
+  pub new-dead : size G (row (B .born)) ≡ 0
+  new-dead = ⊎-elim (λ h. absurd (omega (arith, I .told (B .born) h .young))) (λ h. omega arith) (lt-or-le 0 (size G (row (B .born))))
 
-  pub now-same : (q : ℕ) → (q ≡ r → ⊥) → B′ .now q ≡ B .now q
-  now-same q d = put-off (B .now) r q (B .born) d
+  not-new : (b : ℕ) → 0 < size G (row b) → b ≡ B .born → ⊥
+  not-new b h e = omega (arith, I .told b h .young)
 
-  name-same : (b : ℕ) → b < B .born → B′ .name b ≡ B .name b
-  name-same b h = put-off (B .name) (B .born) b r (λ e. omega arith)
+  pub live-name : (b : ℕ) → 0 < size G (row b) → B′ .name b ≡ B .name b
+  live-name b h = put-off (B .name) (B .born) b r (not-new b h)
 
-  live-name : (b : ℕ) → 0 < size G (row b) → B′ .name b ≡ B .name b
-  live-name b h = name-same b (I .tab .of-live b h .young)
+  pub live-row : (b : ℕ) → 0 < size G (row b) → Y′ b ≡ Y b
+  live-row b h = put-off Y (B .born) b v (not-new b h)
 
-  pub agree′ : Agree G (marksOf T B) (marksOf T B′)
-  agree′ = agree-rows G T T B B′ (λ b h. rw (live-name b h) (refl, λ s. refl))
+  pub agree′ : Agree G (marksOf Y) (marksOf Y′)
+  agree′ = agree-rows G Y Y′ (λ b h. let w = live-row b h in (ap (λ (u : Row ℕ). u .level) w, λ s. ap (λ (u : Row ℕ). on s (u .branch) .finished) w))
 
-  new-dead : size G (row (B .born)) ≡ 0
-  new-dead = ⊎-elim (λ h. absurd (omega (arith, I .tab .of-live (B .born) h .young))) (λ h. omega arith) (lt-or-le 0 (size G (row (B .born))))
-
-  told : (b : ℕ) → 0 < size G (row b) → Told sh T B′ G b
-  told b h =
-      let o = I .tab .of-live b h in
-      let e = live-name b h in
+  told′ : (b : ℕ) → 0 < size G (row b) → Told sh Y′ B′ G b
+  told′ b h =
+      let o = I .told b h in
+      let w = live-row b h in
       record {
-        here = ap (B′ .now) e ∙ now-same (B .name b) (other-name (B .name b) (o .used)) ∙ o .here;
-        used = ap (λ i. T i .used) e ∙ o .used;
-        length = λ s. ap (λ i. on s (T i .branch) .length) e ∙ o .length s;
-        tip-is = λ s. ap (λ i. on s (T i .branch) .tip) e ∙ o .tip-is s;
+        length = λ s. ap (λ (u : Row ℕ). on s (u .branch) .length) w ∙ o .length s;
+        tip-is = λ s. ap (λ (u : Row ℕ). on s (u .branch) .tip) w ∙ o .tip-is s;
+        room = rw w (o .room);
         young = omega (arith, o .young);
       }
-
-  no-length : (x : Owner) → size G x ≡ 0 → (s : Side) → G .length s x ≡ 0
-  no-length x h Rising = unfold size in omega (arith, h)
-  no-length x h Falling = unfold size in omega (arith, h)
-
-  lengths : (s : Side) (q : ℕ) → q < n → rowLengths G B′ s q ≡ rowLengths G B s q
-  lengths s q h = ⊎-elim
-      (λ e. ap (λ b. G .length s (row b)) (ap (B′ .now) e ∙ put-at (B .now) r r (B .born) refl) ∙ no-length _ new-dead s ∙ sym (ap (λ i. G .length s (row (B .now i))) e ∙ no-length _ (dead-row I r bound free) s))
-      (λ e. ap (λ b. G .length s (row b)) (now-same q e))
-      (eq-or-ne q r)
 
   linked′ : (e : ℕ) (t : Spot) → G .spot e ≡ t → toPlace B G t ≡ toPlace B′ G t
   unfolding toPlace
@@ -191,30 +153,80 @@ module _ {sh : Plan} {p m n : ℕ} {T : Table} {J : List Rec} {B : Naming} {G : 
   linked′ e (onOwner (edge a) i) q = refl
   linked′ e (onOwner (row b) i) q = rw (live-name b (omega (arith, I .frame .chain .within e (row b) i q))) refl
 
+  no-branch : branches (rowLengths G) (suc (B .born)) ≡ branches (rowLengths G) (B .born)
+  unfolding branches count some? size
+  no-branch = omega (arith, ap (λ k. bit (some? k)) (none Falling), ap (λ k. bit (some? k)) (none Rising))
+    where
+      none : (s : Side) → G .length s (row (B .born)) ≡ 0
+      none Rising = omega (arith, new-dead)
+      none Falling = omega (arith, new-dead)
+
   -- the state is the same with the new birth
-  pub reborn-state : State sh p m n T J B′ G
+  pub reborn-state : State sh p m Y′ J B′ G
   reborn-state = record {
     frame = remark-frame agree′ (I .frame);
     seams = remark-seams agree′ (I .seams);
-    tab = record {
-      of-live = told;
-      to-live = λ q u s f. rw (now-same q (other-name q u)) (I .tab .to-live q u s f);
-      below = I .tab .below;
-      own = own′;
-      bounded = I .tab .bounded;
-    };
+    told = told′;
+    one-name = λ b c h k e. I .one-name b c h k (sym (live-name b h) ∙ e ∙ live-name c k);
     linked = λ e h. I .linked e h ∙ linked′ e (G .spot e) refl;
-    spent = record {
-      token = λ q u d. token-remark (I .frame .chain) (λ y h. agree′ .levels y h) (I .spent .token q u (rw (now-same q (other-name q u)) at d));
-      one = λ q t u v d e w. I .spent .one q t u v (rw (now-same q (other-name q u)) at d) (rw (now-same t (other-name t v)) at e) w;
-    };
-    rooms = I .rooms;
-    paid = omega (arith, I .paid, branches-same (rowLengths G B) (rowLengths G B′) n lengths);
+    paid = omega (arith, I .paid, no-branch);
     shuts = I .shuts;
   }
+
+  -- so is what the table holds
+  pub reborn-tied : {n : ℕ} {T : Table} {x : Owner} → Tied n T Y B G x → Tied n T Y′ B′ G x
+  reborn-tied {T = T} K = record {
+    of-live = λ b h d. let o = K .of-live b h d in rw (live-name b h) (o .0, o .1 ∙ sym (live-row b h));
+    to-live = λ q u. let o = K .to-live q u in (o .0, o .1, o .2, live-name (o .0) (o .1) ∙ o .3);
+    named = λ b h. rw (live-name b h) (K .named b h);
+  }
+
+-- what is done to the table
+module _ {n : ℕ} {T Y : Table} {B : Naming} {G : Paths} {x : Owner} (one-name : (b c : ℕ) → 0 < size G (row b) → 0 < size G (row c) → B .name b ≡ B .name c → b ≡ c) (K : Tied n T Y B G x) where
+  -- a row in use has one birth
+  pub row-is : (r : ℕ) (u : T r .used ≡ true) → T r ≡ Y (K .to-live r u .0)
+  row-is r u = let o = K .to-live r u in ap T (sym (o .3)) ∙ K .of-live (o .0) (o .1) (o .2) .1
+
+  -- a row in use written anew, and its birth so
+  pub tie-write : (c : ℕ) → 0 < size G (row c) → (row c ≡ x → ⊥) → (r : ℕ) → B .name c ≡ r → (v : Row ℕ) → v .used ≡ true → Tied n (put T r v) (put Y c v) B G x
+  tie-write c lc d r q v u = record {
+    of-live = λ b l f. ⊎-elim (here b) (there b l f) (eq-or-ne b c);
+    to-live = λ i w. ⊎-elim (λ e. (c, lc, d, q ∙ sym e)) (λ e. K .to-live i (sym (ap (λ (w : Row ℕ). w .used) (put-off T r i v e)) ∙ w)) (eq-or-ne i r);
+    named = K .named;
+  }
     where
-      own′ : (q : ℕ) → q < B .bound → (B′ .name (B′ .now q) ≡ q) × (B′ .now q < suc (B .born))
-      own′ q h = ⊎-elim
-          (λ e. let w = ap (B′ .now) e ∙ put-at (B .now) r r (B .born) refl in (ap (B′ .name) w ∙ put-at (B .name) (B .born) (B .born) r refl ∙ sym e, omega (arith, w)))
-          (λ e. let w = now-same q e in let o = I .tab .own q h in (ap (B′ .name) w ∙ name-same (B .now q) (o .1) ∙ o .0, omega (arith, w, o .1)))
-          (eq-or-ne q r)
+      here : (b : ℕ) → b ≡ c → (put T r v (B .name b) .used ≡ true) × (put T r v (B .name b) ≡ put Y c v b)
+      here b e =
+          let w : put T r v (B .name b) ≡ v = put-at T r (B .name b) v (ap (B .name) e ∙ q) in
+          (ap (λ (w : Row ℕ). w .used) w ∙ u, w ∙ sym (put-at Y c b v e))
+
+      there : (b : ℕ) → 0 < size G (row b) → (row b ≡ x → ⊥) → (b ≡ c → ⊥) → (put T r v (B .name b) .used ≡ true) × (put T r v (B .name b) ≡ put Y c v b)
+      there b l f e =
+          let o = K .of-live b l f in
+          let w : put T r v (B .name b) ≡ T (B .name b) = put-off T r (B .name b) v (λ h. e (one-name b c l lc (h ∙ sym q))) in
+          (ap (λ (w : Row ℕ). w .used) w ∙ o .0, w ∙ o .1 ∙ sym (put-off Y c b v e))
+
+  -- a row freed is in hand from now on; no live row was
+  pub tie-free : ((b : ℕ) → 0 < size G (row b) → row b ≡ x → ⊥) → (c : ℕ) → 0 < size G (row c) → (r : ℕ) → B .name c ≡ r → Tied n (put T r (freeRow (T r))) Y B G (row c)
+  tie-free none c lc r q = record {
+    of-live = λ b l f.
+        let o = K .of-live b l (none b l) in
+        let w : put T r (freeRow (T r)) (B .name b) ≡ T (B .name b) = put-off T r (B .name b) _ (λ h. f (ap row (one-name b c l lc (h ∙ sym q)))) in
+        (ap (λ (w : Row ℕ). w .used) w ∙ o .0, w ∙ o .1);
+    to-live = λ i w.
+        let e : i ≡ r → ⊥ = λ e. not-both w (ap (λ (w : Row ℕ). w .used) (put-at T r i (freeRow (T r)) e)) in
+        let o = K .to-live i (sym (ap (λ (w : Row ℕ). w .used) (put-off T r i (freeRow (T r)) e)) ∙ w) in
+        (o .0, o .1, (λ h. let k : o .0 ≡ c = cc in e (sym (o .3) ∙ ap (B .name) k ∙ q)), o .3);
+    named = K .named;
+  }
+
+-- no live row is in hand: an edge of the list is, or what was in hand is gone
+pub tie-none : {n : ℕ} {T Y : Table} {B : Naming} {G : Paths} {x : Owner} → Tied n T Y B G x → ((b : ℕ) → 0 < size G (row b) → row b ≡ x → ⊥) → (a : ℕ) → Tied n T Y B G (edge a)
+tie-none K none a = record {
+  of-live = λ b l f. K .of-live b l (none b l);
+  to-live = λ r u. let o = K .to-live r u in (o .0, o .1, not-edge (o .0), o .3);
+  named = K .named;
+}
+  where
+    not-edge : (b : ℕ) → row b ≡ edge a → ⊥
+    not-edge b e = let z : _≡_ {A = ℕ} 0 1 = cc in omega arith

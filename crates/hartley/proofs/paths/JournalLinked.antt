@@ -1,5 +1,5 @@
--- The journal's places are the spots. The journal knows rows by their names, the paths by their births: `Naming` says which birth a name stands for and
--- which name a birth has. Names of live owners differ, so a record moves the places of its own edge's path and of no other.
+-- The journal's places are the spots. The journal knows rows by their names, the paths by their births: `Naming` says which name a birth has. Names of live
+-- owners differ, so a record moves the places of its own edge's path and of no other; that its edge's name may be its chain's row too does not matter.
 use mathlib.Core.Path.{_≡_, refl, ap, sym, _∙_}
 use mathlib.Core.List.{List, _∷_}
 use Prim.Native.Nat.{ℕ, _+_, _<_}
@@ -16,12 +16,10 @@ use Rattle.hartley.proofs.paths.Paths.{Owner, edge, row, same?, Spot, o
 use Rattle.hartley.proofs.paths.PathClosed.{closed, to-here, to-older, to-apart}
 use Rattle.hartley.proofs.paths.PathGrown.{grow, Links, grow-out, grow-length, grow-behind, grow-rest, thisIndex, childIndex, grow-this, grow-child, grow-other}
 
--- births and names: which birth a name stands for, which name a birth has, how many births there were, and the bound of the names that may be opened
+-- which name a birth has, and how many births there were
 pub record Naming : Type 0 where
-  pub now : ℕ → ℕ
   pub name : ℕ → ℕ
   pub born : ℕ
-  pub bound : ℕ
 
 abbrev pub nameOf : Naming → Owner → Name
 nameOf B (edge a) = ofEdge a

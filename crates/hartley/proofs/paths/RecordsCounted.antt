@@ -1,6 +1,6 @@
 -- How many records there are: each row passed up took two that put something into it, one for each branch. So twice the records of rows passed up, and the
 -- branches that are not empty, are at most the records that put something; and at the end the records are at most twice the edges less the outlines.
-use mathlib.Core.Path.{_≡_, refl, ap, sym, _∙_}
+use mathlib.Core.Path.{_≡_, refl, sym, _∙_}
 use mathlib.Core.Bool.{Bool, true, false, _||_}
 use mathlib.Core.Logic.{_⊎_, inl, inr, ⊎-elim}
 use mathlib.Core.List.{List, [], _∷_}
@@ -9,7 +9,7 @@ use native.Mathlib.Omega.{arith}
 use lib.Dec.{eqb}
 use borrow.Author.Tests.{eq-eqb, eqb-true}
 use Rattle.laws.specs.Counting.{count}
-use Rattle.laws.proofs.Counting.{without, without-there, count-without, count-or, count-implies, count-all, count-same}
+use Rattle.laws.proofs.Counting.{without, without-there, count-without, count-or, count-implies, count-all}
 use Rattle.laws.proofs.Pigeonhole.{pigeon}
 use Rattle.steps.specs.declared.Side.{Side}
 use Rattle.steps.specs.declared.Side.the-variants.{Rising, Falling}
@@ -92,10 +92,6 @@ count-more q p k n h = omega (arith, once k n, count-or q (λ i. eqb i k) p n (�
 -- branches that are not empty, by the lengths of the rows below n
 unfoldable pub branches : (Side → ℕ → ℕ) → ℕ → ℕ
 branches length n = count (λ r. some? (length Falling r)) n + count (λ r. some? (length Rising r)) n
-
-pub branches-same : (l l′ : Side → ℕ → ℕ) (n : ℕ) → ((s : Side) (i : ℕ) → i < n → l′ s i ≡ l s i) → branches l′ n ≡ branches l n
-unfolding branches
-branches-same l l′ n h = rw (count-same (λ r. some? (l′ Falling r)) (λ r. some? (l Falling r)) n (λ i m. ap some? (h Falling i m)), count-same (λ r. some? (l′ Rising r)) (λ r. some? (l Rising r)) n (λ i m. ap some? (h Rising i m)))
 
 -- from l to l′: one branch of r may be new, and a row that is gone had both
 module _ (l l′ : Side → ℕ → ℕ) (n : ℕ) where

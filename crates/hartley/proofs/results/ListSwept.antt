@@ -1,14 +1,14 @@
 -- The list's edges treated in order. Before each edge the invariant stands at its top, with its edges before it all in rows or outlines and those
 -- from it on still by themselves; treating it keeps that (EdgeTreated), and the next top is no lower. So the sweep ends done, or without a free row at
--- an edge where one row more than are lent would be in use. It never ends in an overrun.
-use mathlib.Core.Path.{_≡_, refl, ap, _∙_}
+-- an edge of the list that finds none itself. It never ends in an overrun.
+use mathlib.Core.Path.{_≡_, refl, ap, sym, _∙_}
 use mathlib.Core.Bool.{false, cond}
 use mathlib.Core.List.{List, []}
 use mathlib.Core.Logic.{_⊎_, inl, inr, ⊎-elim}
 use Prim.Native.Nat.{ℕ, zero, suc, _+_, _≤_, _<_}
 use native.Mathlib.Omega.{arith}
 use borrow.Author.Tests.{lt-ltb, le-ltb}
-use Rattle.laws.proofs.Deciding.{lt-or-le, eq-or-ne, not-both}
+use Rattle.laws.proofs.Deciding.{lt-or-le, eq-or-ne}
 use Rattle.sheet.specs.Edges.{topHeight}
 use Rattle.steps.specs.declared.Side.{Side}
 use Rattle.steps.specs.declared.Side.the-variants.{Rising, Falling}
@@ -26,15 +26,15 @@ use Rattle.hartley.proofs.paths.JournalLinked.{Naming}
 use Rattle.hartley.proofs.paths.Outlines.{Outs}
 use Rattle.hartley.proofs.paths.RecordsCounted.{listed}
 use Rattle.hartley.proofs.invariant.Invariant.{LocalAt, Time, single}
-use Rattle.hartley.proofs.invariant.TableTied.{Table, State, marksOf}
+use Rattle.hartley.proofs.invariant.TableTied.{Table, State, marksOf, tie-none}
 use Rattle.hartley.proofs.step.RowOfStepOne.{Pre}
-use Rattle.hartley.proofs.invariant.LeftAlone.{Clean, Kept}
+use Rattle.hartley.proofs.invariant.LeftAlone.{WholeBy, Kept}
 use Rattle.hartley.proofs.invariant.BeforeTheFirst as init
-use Rattle.hartley.proofs.invariant.BeforeTheFirst.{unborn, begin, size-edge}
+use Rattle.hartley.proofs.invariant.BeforeTheFirst.{unborn, begin, begin-tied, size-edge, no-row}
 use Rattle.hartley.proofs.step.TableSeen.{view-above}
 use Rattle.hartley.proofs.step.StepsSeen.{Work, tableOf, journalOf}
 use Rattle.hartley.proofs.step.Given.{Setting, plan, laws, roomIn}
-use Rattle.hartley.proofs.step.EdgeInHand.{Inv, Crowded, Outcome, done, full}
+use Rattle.hartley.proofs.step.EdgeInHand.{Inv, Crowded, FindsNone, Outcome, went, full}
 use Rattle.hartley.proofs.step.EdgeTreated.{treat-outcome}
 
 -- the side on which an edge climbs, and its top there
@@ -93,9 +93,9 @@ aged : {sh : Plan} {m : ℕ} {G : Paths} → Outs sh m G → Outs sh (suc m) G
 aged O = record { within = O .within; real = O .real; follow = O .follow; first = O .first; last = O .last; some = O .some; wrap = O .wrap; high = O .high; old = λ k l. omega (arith, O .old k l); order = O .order }
 
 -- from an edge's top to the next edge's
-advance : {sh : Plan} (n p p′ i : ℕ) (T : Table) (J : List Rec) (B : Naming) (G : Paths) → height sh p ≤ height sh p′ → size G (edge i) ≡ 0 → Clean 0 T B G → State sh p (suc i) n T J B G → State sh p′ (suc (suc i)) n T J B G
+advance : {sh : Plan} (p p′ i : ℕ) (Y : Table) (J : List Rec) (B : Naming) (G : Paths) → height sh p ≤ height sh p′ → size G (edge i) ≡ 0 → WholeBy 0 Y G → State sh p (suc i) Y J B G → State sh p′ (suc (suc i)) Y J B G
 unfolding marksOf
-advance {sh} n p p′ i T J B G le dead K I = record {
+advance {sh} p p′ i Y J B G le dead K I = record {
   frame = record {
     chain = I .frame .chain;
     outs = aged (I .frame .outs);
@@ -107,19 +107,18 @@ advance {sh} n p p′ i T J B G le dead K I = record {
     edge-finished = I .frame .edge-finished;
   };
   seams = I .seams;
-  tab = I .tab;
+  told = I .told;
+  one-name = I .one-name;
   linked = I .linked;
-  spent = record { token = λ r u d. absurd (omega (arith, K .idle r u d)); one = λ q r u v d e w. absurd (omega (arith, K .idle q u d)) };
-  rooms = I .rooms;
   paid = I .paid;
   shuts = I .shuts;
 }
   where
-    later : (b : ℕ) → 0 < size G (row b) → LocalAt sh p G (marksOf T B) (row b) → LocalAt sh p′ G (marksOf T B) (row b)
+    later : (b : ℕ) → 0 < size G (row b) → LocalAt sh p G (marksOf Y) (row b) → LocalAt sh p′ G (marksOf Y) (row b)
     later b l L = record {
       positive = L .positive;
       peaked = L .peaked;
-      ready = λ f. let o = I .tab .of-live b l in absurd (omega (arith, K .whole (B .name b) (rw (o .here) l) (record { used = o .used; finished = f })));
+      ready = λ f. absurd (omega (arith, K b l f));
       heavy = λ s k e. ⊎-elim (λ q. inl (q .0, omega arith)) (λ q. inr q) (L .heavy s k e);
     }
 
@@ -131,28 +130,40 @@ module _ (A : Setting) where
   N = laws A
 
   -- before the edge i
-  pub record Before (i : ℕ) (l : i < A .sheet .edges) (s : Work) (B : Naming) (G : Paths) : Type 0 where
-    pub inv : Inv A (time N i l) s B G
-    pub clean : Clean 0 (tableOf s) B G
-    pub waits : (a : ℕ) → i ≤ a → a < A .sheet .edges → 0 < size G (edge a)
-    pub gone : (a : ℕ) → a < i → size G (edge a) ≡ 0
+  pub record Before (i : ℕ) (l : i < A .sheet .edges) (s : Work) : Type 0 where
+    pub births : Table
+    pub names : Naming
+    pub paths : Paths
+    pub inv : Inv A (time N i l) s births names paths (edge i)
+    pub clean : WholeBy 0 births paths
+    pub waits : (a : ℕ) → i ≤ a → a < A .sheet .edges → 0 < size paths (edge a)
+    pub gone : (a : ℕ) → a < i → size paths (edge a) ≡ 0
     pub listed-is : listed (journalOf s) ≡ i
 
   -- after it
-  pub record Past (i : ℕ) (l : i < A .sheet .edges) (s : Work) (B : Naming) (G : Paths) : Type 0 where
-    pub inv : Inv A (time N i l) s B G
-    pub clean : Clean 0 (tableOf s) B G
-    pub waits : (a : ℕ) → i < a → a < A .sheet .edges → 0 < size G (edge a)
-    pub gone : (a : ℕ) → a ≤ i → size G (edge a) ≡ 0
+  pub record Past (i : ℕ) (l : i < A .sheet .edges) (s : Work) : Type 0 where
+    pub births : Table
+    pub names : Naming
+    pub paths : Paths
+    pub inv : Inv A (time N i l) s births names paths (edge 0)
+    pub clean : WholeBy 0 births paths
+    pub waits : (a : ℕ) → i < a → a < A .sheet .edges → 0 < size paths (edge a)
+    pub gone : (a : ℕ) → a ≤ i → size paths (edge a) ≡ 0
     pub listed-is : listed (journalOf s) ≡ suc i
 
   pub data Result (i : ℕ) (l : i < A .sheet .edges) (s : Work) : Type 0 where
-    past : (B : Naming) (G : Paths) → Past i l s B G → Result i l s
-    stopped : s .end ≡ NoFreeRow → (k : ℕ) (h : k < A .sheet .edges) → Crowded A (time N k h) → Result i l s
+    past : Past i l s → Result i l s
+    stopped : s .end ≡ NoFreeRow → Result i l s
 
-  pre-edge : (i : ℕ) (h : i < A .sheet .edges) (s : Work) (B : Naming) (G : Paths) → Before i h s B G → Pre sh (topOf sh i) (suc i) (tableOf s) B G 0 (drawnEdge (A .sheet) i)
+  -- the edge finds no row, and what follows of how many there are
+  pub record Lacking (i : ℕ) (l : i < A .sheet .edges) (s : Work) : Type 0 where
+    pub finds-none : FindsNone A (time N i l) s (drawnEdge (A .sheet) i)
+    pub crowded : Crowded A (time N i l)
+    pub reach-rows : s .reach ≤ A .rows
+
+  pre-edge : (i : ℕ) (h : i < A .sheet .edges) (s : Work) (Q : Before i h s) → Pre sh (topOf sh i) (suc i) (Q .births) (Q .names) (Q .paths) 0 (drawnEdge (A .sheet) i) (edge i)
   unfolding marksOf
-  pre-edge i h s B G Q = record {
+  pre-edge i h s Q = record {
     live = l;
     both-finished = λ t. refl;
     level-is = refl;
@@ -166,6 +177,9 @@ module _ (A : Setting) where
     parts = parts;
   }
     where
+      G : Paths
+      G = Q .paths
+
       parts : (t : Side) → height sh (bottom t (drawnEdge (A .sheet) i)) < height sh (top t (drawnEdge (A .sheet) i)) → drawnEdge (A .sheet) i .apart ≡ sh .list .apart (top t (drawnEdge (A .sheet) i))
       parts Rising q = ap (λ u. sh .list .apart (cond u (sh .list .head i) (sh .list .tail i))) (lt-ltb _ _ q)
       parts Falling q = ap (λ u. sh .list .apart (cond u (sh .list .head i) (sh .list .tail i))) (le-ltb (height sh (sh .list .tail i)) (height sh (sh .list .head i)) (omega (arith, q)))
@@ -194,31 +208,48 @@ module _ (A : Setting) where
   other-edge : {a i : ℕ} → (a ≡ i → ⊥) → edge a ≡ edge i → ⊥
   other-edge d e = d (cc)
 
-  treated : (i : ℕ) (h : i < A .sheet .edges) (s : Work) (B : Naming) (G : Paths) → Before i h s B G → Result i h (treat (roomIn A) levels 0 s (drawnEdge (A .sheet) i))
-  treated i h s B G Q = by (treat-outcome A (time N i h) levels 0 refl s (drawnEdge (A .sheet) i) B G (Q .inv) (pre-edge i h s B G Q) (Q .clean) (omega (arith, Q .listed-is)))
-    where
-      s′ : Work
-      s′ = treat (roomIn A) levels 0 s (drawnEdge (A .sheet) i)
+  module _ (i : ℕ) (h : i < A .sheet .edges) (s : Work) (Q : Before i h s) where
+    abbrev s′ : Work
+    s′ = treat (roomIn A) levels 0 s (drawnEdge (A .sheet) i)
 
-      by : Outcome A (time N i h) s′ (1 + listed (journalOf s)) (λ B′ G′. Kept 0 (edge i) (tableOf s) (tableOf s′) B B′ G G′) → Result i h s′
-      by (full e c) = stopped e i h c
-      by (done B′ G′ I′ q K) = past B′ G′ (record {
-        inv = I′;
-        clean = record { whole = K .whole; idle = λ r u d. absurd (omega (arith, K .idle r u d)) };
-        waits = λ a l u. omega (arith, K .edges a (other-edge (λ q. omega arith)), Q .waits a (omega arith) u);
-        gone = λ a l. ⊎-elim (λ m. K .edges a (other-edge (λ q. omega arith)) ∙ Q .gone a m) (λ m. let q : a ≡ i = omega arith in rw q (K .gone)) (lt-or-le a i);
-        listed-is = omega (arith, q, Q .listed-is);
-      })
+    ended : Outcome A (time N i h) 0 s (drawnEdge (A .sheet) i) s′ (1 + listed (journalOf s)) (λ Y′ B′ G′. Kept 0 (edge i) (Q .names .born) (Q .births) Y′ (Q .names) B′ (Q .paths) G′)
+    ended = treat-outcome A (time N i h) levels 0 refl s (drawnEdge (A .sheet) i) (Q .births) (Q .names) (Q .paths) (edge i) (Q .inv) (pre-edge i h s Q) (Q .clean) (λ z. absurd (omega arith)) (omega (arith, Q .listed-is))
 
-  onwards : (i : ℕ) (h : suc i < A .sheet .edges) (l : i < A .sheet .edges) (s : Work) (B : Naming) (G : Paths) → Past i l s B G → Before (suc i) h s B G
-  onwards i h l s B G Q = record {
+    treated : Result i h s′
+    treated = by ended
+      where
+        by : Outcome A (time N i h) 0 s (drawnEdge (A .sheet) i) s′ (1 + listed (journalOf s)) (λ Y′ B′ G′. Kept 0 (edge i) (Q .names .born) (Q .births) Y′ (Q .names) B′ (Q .paths) G′) → Result i h s′
+        by (full z e n c) = stopped e
+        by (went w) = past (record {
+          births = w .births;
+          names = w .names;
+          paths = w .paths;
+          inv = w .inv;
+          clean = w .kept .stays .whole;
+          waits = λ a l u. omega (arith, w .kept .stays .edges a (other-edge (λ q. omega arith)), Q .waits a (omega arith) u);
+          gone = λ a l. ⊎-elim (λ m. w .kept .stays .edges a (other-edge (λ q. omega arith)) ∙ Q .gone a m) (λ m. let q : a ≡ i = omega arith in rw q (w .kept .gone)) (lt-or-le a i);
+          listed-is = omega (arith, w .listed-is, Q .listed-is);
+        })
+
+    lacks : s′ .end ≡ NoFreeRow → Lacking i h s
+    lacks d = by ended
+      where
+        by : Outcome A (time N i h) 0 s (drawnEdge (A .sheet) i) s′ (1 + listed (journalOf s)) (λ Y′ B′ G′. Kept 0 (edge i) (Q .names .born) (Q .births) Y′ (Q .names) B′ (Q .paths) G′) → Lacking i h s
+        by (full z e n c) = record { finds-none = n; crowded = c; reach-rows = Q .inv .reach-rows }
+        by (went w) = let e : Done ≡ NoFreeRow = sym (w .inv .is-done) ∙ d in let z : _≡_ {A = ℕ} 0 1 = cc in absurd (omega arith)
+
+  onwards : (i : ℕ) (h : suc i < A .sheet .edges) (l : i < A .sheet .edges) (s : Work) → Past i l s → Before (suc i) h s
+  onwards i h l s Q = record {
+    births = Q .births;
+    names = Q .names;
+    paths = Q .paths;
     inv = record {
-      state = advance (A .rows) (topOf sh i) (topOf sh (suc i)) i (tableOf s) (journalOf s) B G (omega (arith, N .order i (suc i) (omega arith) h, top-height N i l, top-height N (suc i) h)) (Q .gone i (omega arith)) (Q .clean) (Q .inv .state);
+      state = advance (topOf sh i) (topOf sh (suc i)) i (Q .births) (journalOf s) (Q .names) (Q .paths) (omega (arith, N .order i (suc i) (omega arith) h, top-height N i l, top-height N (suc i) h)) (Q .gone i (omega arith)) (Q .clean) (Q .inv .state);
+      tied = tie-none (Q .inv .tied) (λ b k e. let z : _≡_ {A = ℕ} 0 1 = cc in omega arith) (suc i);
       held = Q .inv .held;
       reach-rows = Q .inv .reach-rows;
       reach-records = Q .inv .reach-records;
       is-done = Q .inv .is-done;
-      spare = Q .inv .spare;
     };
     clean = Q .clean;
     waits = λ a m u. Q .waits a (omega arith) u;
@@ -235,10 +266,13 @@ module _ (A : Setting) where
     unfolding recs
     no-records = refl
 
-    begun : (h : 0 < A .sheet .edges) → Before 0 h (start 0 t j) (unborn (A .rows)) (init.start (A .sheet .edges))
+    begun : (h : 0 < A .sheet .edges) → Before 0 h (start 0 t j)
     begun h = record {
-      inv = record { state = rw no-records (begin sh N (topOf sh 0) (A .rows) (tableOf (start 0 t j)) no-rows); held = λ k l. absurd (omega arith); reach-rows = omega arith; reach-records = omega arith; is-done = refl; spare = omega arith };
-      clean = record { whole = λ r l w. absurd (not-both (w .used) (no-rows r)); idle = λ r u d. absurd (not-both u (no-rows r)) };
+      births = tableOf (start 0 t j);
+      names = unborn;
+      paths = init.start (A .sheet .edges);
+      inv = record { state = rw no-records (begin sh N (topOf sh 0) (tableOf (start 0 t j))); tied = begin-tied sh (A .rows) (tableOf (start 0 t j)) (tableOf (start 0 t j)) 0 no-rows; held = λ k l. absurd (omega arith); reach-rows = omega arith; reach-records = omega arith; is-done = refl };
+      clean = λ b l w. absurd (no-row sh b l);
       waits = λ a l u. omega (arith, size-edge sh a u);
       gone = λ a l. absurd (omega arith);
       listed-is = ap listed no-records ∙ (unfold listed in refl);
@@ -252,12 +286,26 @@ module _ (A : Setting) where
 
     pub sweep-result : (i : ℕ) (l : i < A .sheet .edges) → Result i l (at (suc i) .state)
     unfolding sweepUp
-    sweep-result zero l = treated 0 l (start 0 t j) (unborn (A .rows)) (init.start (A .sheet .edges)) (begun l)
+    sweep-result zero l = treated 0 l (start 0 t j) (begun l)
     sweep-result (suc i) l = by (sweep-result i (omega arith))
       where
-        s′ : Work
-        s′ = treat (roomIn A) levels 0 (at (suc i) .state) (drawnEdge (A .sheet) (suc i))
+        s₁ : Work
+        s₁ = treat (roomIn A) levels 0 (at (suc i) .state) (drawnEdge (A .sheet) (suc i))
 
-        by : {m : i < A .sheet .edges} → Result i m (at (suc i) .state) → Result (suc i) l (afterDone (at (suc i) .state .end) (at (suc i)) (record { state = s′; edge = suc i }) .state)
-        by (stopped e k h c) = rw (next-state (at (suc i)) s′ (suc i) NoFreeRow e) (stopped e k h c)
-        by {m} (past B G Q) = rw (next-state (at (suc i)) s′ (suc i) Done (Q .inv .is-done)) (treated (suc i) l (at (suc i) .state) B G (onwards i l m (at (suc i) .state) B G Q))
+        by : {m : i < A .sheet .edges} → Result i m (at (suc i) .state) → Result (suc i) l (afterDone (at (suc i) .state .end) (at (suc i)) (record { state = s₁; edge = suc i }) .state)
+        by (stopped e) = rw (next-state (at (suc i)) s₁ (suc i) NoFreeRow e) (stopped e)
+        by {m} (past Q) = rw (next-state (at (suc i)) s₁ (suc i) Done (Q .inv .is-done)) (treated (suc i) l (at (suc i) .state) (onwards i l m (at (suc i) .state) Q))
+
+    -- the edges before i are treated
+    pub before-edge : (i : ℕ) (l : i < A .sheet .edges) → at i .state .end ≡ Done → Before i l (at i .state)
+    unfolding sweepUp
+    before-edge zero l d = begun l
+    before-edge (suc i) l d = by (sweep-result i (omega arith))
+      where
+        by : {m : i < A .sheet .edges} → Result i m (at (suc i) .state) → Before (suc i) l (at (suc i) .state)
+        by {m} (past Q) = onwards i l m (at (suc i) .state) Q
+        by (stopped e) = let f : Done ≡ NoFreeRow = sym d ∙ e in let z : _≡_ {A = ℕ} 0 1 = cc in absurd (omega arith)
+
+    -- .. and i finds no row
+    pub lacking-at : (i : ℕ) (l : i < A .sheet .edges) → at i .state .end ≡ Done → treat (roomIn A) levels 0 (at i .state) (drawnEdge (A .sheet) i) .end ≡ NoFreeRow → Lacking i l (at i .state)
+    lacking-at i l d e = lacks i l (at i .state) (before-edge i l d) e

@@ -1,6 +1,6 @@
 -- The peak is exact. The lowest free row is below the peak, or is the peak where all rows below are in use; so a run opens a row that is not lent exactly
 -- when its peak would pass the rows lent. A run with n rows is therefore the run with any larger number of rows until that one's peak passes n, and
--- ends there without a free row. Said of any places, tables and journals.
+-- ends there without a free row. Said of any places and journals, and any table that a sheet has alone.
 use mathlib.Core.Path.{_≡_, refl, ap, sym, _∙_, subst}
 use mathlib.Core.Bool.{Bool, true, false, _&&_, cond}
 use mathlib.Core.Logic.{_⊎_, ⊎-elim}
@@ -18,11 +18,11 @@ use Rattle.steps.specs.declared.End.the-variants.{Done, NoFreeRow, Overrun}
 use Rattle.steps.specs.Rows.{otherSide, LevelEdge, closing, Places, Table, Journal, Room}
 use Rattle.steps.specs.SweepUp as up
 use Rattle.steps.specs.SweepUp.{State, Sweep, afterDone, asEdge, bothFinished, levels, mostLength}
-use Rattle.laws.proofs.Lowest.{lowest-is}
+use Rattle.steps.proofs.Alone.{Alone, can-open}
 
-module _ {P T J : Type 0} (places : Places P) (table : Table P T) (journal : Journal J) (records : ℕ) where
+module _ {P T J : Type 0} (places : Places P) (table : Table P T) (alone : Alone table) (journal : Journal J) (records : ℕ) where
   abbrev room : ℕ → Room P T J
-  room n = record { places = places; table = table; journal = journal; rows = n; records = records }
+  room n = record { places = places; table = table; journal = journal; rows = n; share = n; records = records }
 
   abbrev S : Type 0
   S = State T J
@@ -57,9 +57,7 @@ module _ {P T J : Type 0} (places : Places P) (table : Table P T) (journal : Jou
     module _ (next : S → LevelEdge P → S) (grows : (s : S) (e : LevelEdge P) → s .reach ≤ next s e .reach) where
       pub pass-grows : (s : S) (r : ℕ) → s .reach ≤ up.passUp (room n) next s r .reach
       unfolding up.passUp up.free
-      pass-grows s r =
-          let e = asEdge r (up.look (room n) s r) in
-          pick-grows (s .reach) _ s (after-grows (s .reach) (next s e) (up.free (room n) (next s e) r) (grows s e) (grows s e) (next s e .end)) (omega arith) (bothFinished (up.look (room n) s r))
+      pass-grows s r = pick-grows (s .reach) _ s (grows (up.free (room n) s r) (asEdge r (up.look (room n) s r))) (omega arith) (bothFinished (up.look (room n) s r))
 
       both-grows : (s : S) (q r : ℕ) → s .reach ≤ up.passBoth (room n) next s q r .reach
       unfolding up.passBoth
@@ -85,9 +83,9 @@ module _ {P T J : Type 0} (places : Places P) (table : Table P T) (journal : Jou
       unfolding up.inChain up.open-row
       chain-grows s level side e (At r) = row-grows s level side e r
       chain-grows s level side e Nothing =
-          let r = up.lowestFree (room n) s in
+          let r = up.chosen (room n) s in
           let s₁ = up.open-row (room n) s r level (up.bottom side e) in
-          pick-grows (s .reach) (up.onRow (room n) next s₁ level side e r) (up.ended NoFreeRow s) (omega (arith, row-grows s₁ level side e r)) (omega arith) (ltb r n)
+          pick-grows (s .reach) (up.onRow (room n) next s₁ level side e r) (up.ended NoFreeRow s) (omega (arith, row-grows s₁ level side e r)) (omega arith) (up.canOpen (room n) s)
 
     pub treat-grows : (left level : ℕ) (s : S) (e : LevelEdge P) → s .reach ≤ up.treat (room n) left level s e .reach
     unfolding up.treat up.stepsOn
@@ -149,9 +147,7 @@ module _ {P T J : Type 0} (places : Places P) (table : Table P T) (journal : Jou
     module _ (next next′ : S → LevelEdge P → S) (cuts : (s : S) (e : LevelEdge P) → s .reach ≤ n → Cut (next s e) (next′ s e)) (grows : (s : S) (e : LevelEdge P) → s .reach ≤ next′ s e .reach) where
       pass-cut : (s : S) (r : ℕ) → s .reach ≤ n → Cut (up.passUp (room n) next s r) (up.passUp (room n′) next′ s r)
       unfolding up.passUp up.free
-      pass-cut s r l =
-          let e = asEdge r (up.look (room n) s r) in
-          pick-cut (bothFinished (up.look (room n) s r)) (then-cut (λ w. up.free (room n) w r) (λ w. up.free (room n) w r) (next s e) (next′ s e) (cuts s e l) (λ w h. cut-same (up.free (room n) w r) h) (λ w. omega arith)) (cut-same s l)
+      pass-cut s r l = pick-cut (bothFinished (up.look (room n) s r)) (cuts (up.free (room n) s r) (asEdge r (up.look (room n) s r)) l) (cut-same s l)
 
       both-cut : (s : S) (q r : ℕ) → s .reach ≤ n → Cut (up.passBoth (room n) next s q r) (up.passBoth (room n′) next′ s q r)
       unfolding up.passBoth
@@ -173,12 +169,12 @@ module _ {P T J : Type 0} (places : Places P) (table : Table P T) (journal : Jou
           a = up.attach (room n) s level side e r
 
       chain-cut : (s : S) (level : ℕ) (side : Side) (e : LevelEdge P) (f : Found) → s .reach ≤ n → Cut (up.inChain (room n) next s level side e f) (up.inChain (room n′) next′ s level side e f)
-      unfolding up.inChain up.open-row up.lowestFree up.inUse
+      unfolding up.inChain up.open-row up.chosen up.inUse
       chain-cut s level side e (At r) l = row-cut s level side e r l
-      chain-cut s level side e Nothing l = ⊎-elim low top (lowest-is (λ x. up.look (room n) s x .used) (s .reach))
+      chain-cut s level side e Nothing l = rw (can-open (room n) alone s refl (λ i a b. absurd (omega arith)), can-open (room n′) alone s refl (λ i a b. absurd (omega (arith, l, more, a, b)))) (⊎-elim (λ h. both-open h) (λ h. rw (le-ltb r n h) (refused h (ltb r n′))) (lt-or-le r n))
         where
           r : ℕ
-          r = up.lowestFree (room n) s
+          r = up.chosen (room n) s
 
           s₁ : S
           s₁ = up.open-row (room n) s r level (up.bottom side e)
@@ -186,18 +182,13 @@ module _ {P T J : Type 0} (places : Places P) (table : Table P T) (journal : Jou
           Goal : Bool → Bool → Type 0
           Goal t u = Cut (cond t (up.onRow (room n) next s₁ level side e r) (up.ended NoFreeRow s)) (cond u (up.onRow (room n′) next′ s₁ level side e r) (up.ended NoFreeRow s))
 
-          both-open : r < n → s₁ .reach ≤ n → Goal (ltb r n) (ltb r n′)
-          both-open h k = rw (lt-ltb r n h, lt-ltb r n′ (omega arith)) (row-cut s₁ level side e r k)
+          both-open : r < n → Goal (ltb r n) (ltb r n′)
+          both-open h = rw (lt-ltb r n h, lt-ltb r n′ (omega arith)) (row-cut s₁ level side e r (omega (arith, h, l)))
 
-          low : (r < s .reach) × (up.look (room n) s r .used ≡ false) × (s₁ .reach ≡ s .reach) → Goal (ltb r n) (ltb r n′)
-          low h = both-open (omega (arith, h .0)) (omega (arith, h .2))
-
-          refused : n ≤ r → s₁ .reach ≡ suc (s .reach) → r ≡ s .reach → (u : Bool) → Goal false u
-          refused h k q true = record { within = λ m. absurd (omega (arith, h, k, q, row-grows n′ next′ grows s₁ level side e r)); beyond = λ m. refl }
-          refused h k q false = record { within = λ m. refl; beyond = λ m. refl }
-
-          top : (r ≡ s .reach) × (s₁ .reach ≡ suc (s .reach)) × ((x : ℕ) → x < s .reach → up.look (room n) s x .used ≡ true) → Goal (ltb r n) (ltb r n′)
-          top h = ⊎-elim (λ m. both-open m (omega (arith, h .0, h .1))) (λ m. rw (le-ltb r n m) (refused m (h .1) (h .0) (ltb r n′))) (lt-or-le r n)
+          -- the row that would be opened lies past n, so the reach would too
+          refused : n ≤ r → (u : Bool) → Goal false u
+          refused h true = record { within = λ m. absurd (omega (arith, h, row-grows n′ next′ grows s₁ level side e r)); beyond = λ m. refl }
+          refused h false = record { within = λ m. refl; beyond = λ m. refl }
 
     close-cut : (s : S) (level : ℕ) (e : LevelEdge P) → s .reach ≤ n → Cut (up.close (room n) s level e) (up.close (room n′) s level e)
     unfolding up.close up.write

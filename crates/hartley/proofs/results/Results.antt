@@ -3,7 +3,7 @@
 -- rows have been opened, `near`; they hold the same and count the same peak (steps/proofs/Reaching.antt).
 use mathlib.Core.Path.{_≡_, refl, sym, ap, _∙_}
 use mathlib.Core.Logic.{_⊎_, inl, inr, ⊎-elim}
-use Prim.Native.Nat.{ℕ, _+_, _*_, _≤_, _<_}
+use Prim.Native.Nat.{ℕ, _+_, _-_, _*_, _≤_, _<_}
 use native.Mathlib.Omega.{arith}
 use lib.IntN.{pos}
 use Rattle.laws.proofs.Deciding.{lt-or-le}
@@ -17,8 +17,9 @@ use Rattle.steps.specs.Rows.{Row, Record}
 use Rattle.steps.specs.SweepUp.{Sweep, start}
 use Rattle.steps.specs.SweepDown.{naturalPart, Pair, Reading}
 use Rattle.steps.specs.Plain.{plainTable, plainJournal, plainTables}
-use Rattle.steps.specs.Swept.{placesOf, plainRoom, drawnEdge, freeRows, noRecords, noPairs, sweptTo, LacksRow}
+use Rattle.steps.specs.Swept.{placesOf, plainRoom, drawnEdge, freeRows, noRecords, noPairs, sweptTo, LacksRow, LacksItself}
 use Rattle.steps.proofs.AlikeDown.{Holding, AllHeld}
+use Rattle.steps.proofs.Alone.{plain-alone}
 use Rattle.steps.proofs.Bounded.{sweep-within}
 use Rattle.steps.proofs.Reaching.{SameRun, all-rows}
 use Rattle.steps.proofs.Stopping.{stops-at, stopped}
@@ -28,7 +29,8 @@ use Rattle.hartley.proofs.step.Given.{Setting}
 use Rattle.hartley.proofs.results.SweepEnded.{Finished, sweep-ends, when-done}
 use Rattle.hartley.proofs.results.GivesNumbering.{gives-numbering, sequence-natural, records-few}
 use Rattle.hartley.proofs.results.NumbersFit.{Fits, all-held}
-use Rattle.hartley.proofs.results.RowsEnough.{twelve-each, enough-rows}
+use Rattle.hartley.proofs.results.OnlyItself as itself
+use Rattle.hartley.proofs.results.RowsEnough.{twelve-each, fewer-rows, enough-rows}
 use Rattle.sheet.specs.Amounts.{mostEdges}
 
 module _ {sh : Drawing} (K : Checked sh) (few : sh .edges ≤ mostEdges) where
@@ -49,7 +51,7 @@ module _ {sh : Drawing} (K : Checked sh) (few : sh .edges ≤ mostEdges) where
 
     -- the peak is as far as rows have been opened
     peak-near : up .state .peak ≡ near .state .reach
-    peak-near = sym (same .peak) ∙ sweep-within (plainRoom sh rows (2 * sh .edges)) (drawnEdge sh) (sh .edges) freeRows noRecords .by-name
+    peak-near = sym (same .peak) ∙ sweep-within (plainRoom sh rows (2 * sh .edges)) plain-alone (drawnEdge sh) (sh .edges) freeRows noRecords .by-name
 
     -- the sweep up ends done or without a free row, never in an overrun
     pub up-ends : (up .state .end ≡ Done) ⊎ (up .state .end ≡ NoFreeRow)
@@ -59,6 +61,10 @@ module _ {sh : Drawing} (K : Checked sh) (few : sh .edges ≤ mostEdges) where
     pub lacks-row : up .state .end ≡ NoFreeRow → LacksRow sh rows (up .edge)
     unfolding sweptTo
     lacks-row h = let S = stops-at (plainRoom sh rows (2 * sh .edges)) (drawnEdge sh) (start rows freeRows noRecords) refl (sh .edges) h in record { is-edge = S .is-edge; before = S .before; lacking = S .lacking }
+
+    -- that is then e itself: no edge passed up lacks a row
+    pub lacks-itself : (e : ℕ) → LacksRow sh rows e → LacksItself sh rows e
+    lacks-itself e L = itself.lacks-itself K few rows e L
 
     pub lacking-row : (e : ℕ) → LacksRow sh rows e → (up .state .end ≡ NoFreeRow) × (up .edge ≡ e)
     unfolding sweptTo
@@ -91,9 +97,13 @@ module _ {sh : Drawing} (K : Checked sh) (few : sh .edges ≤ mostEdges) where
             → AllHeld plainTables H plainJournal (up .state .journal) (up .state .records) (record { table = table; answers = answers; polygons = 0 })
         all-fits = rw (← same .journal, ← same .records) (all-held A (near .state) F table answers)
 
-    -- demand 3: so many rows are always enough; `polygon` gives the edges of an outline one number
-    pub enough-done : (polygon : ℕ → ℕ) → ((e f : ℕ) → Follows sh e f → polygon f ≡ polygon e) → (c : ℕ) → Enough sh polygon c → c ≤ rows → up .state .end ≡ Done
-    enough-done polygon shared c enough lent = sym (same .end) ∙ enough-rows A polygon shared freeRows noRecords c enough lent
+    -- demand 3: so many rows are always enough, and fewer already; `polygon` gives the edges of an outline one number
+    module _ (polygon : ℕ → ℕ) (shared : (e f : ℕ) → Follows sh e f → polygon f ≡ polygon e) (c : ℕ) (enough : Enough sh polygon c) where
+      pub enough-done : c ≤ rows → up .state .end ≡ Done
+      enough-done lent = sym (same .end) ∙ enough-rows A polygon shared freeRows noRecords c enough lent
+
+      pub fewer-done : 1 + enough .log * (enough .C - 2) ≤ rows → up .state .end ≡ Done
+      fewer-done lent = sym (same .end) ∙ fewer-rows A polygon shared freeRows noRecords c enough lent
 
     pub twelve-each-done : 12 * sh .edges ≤ rows → up .state .end ≡ Done
     twelve-each-done lent = sym (same .end) ∙ twelve-each A freeRows noRecords lent
@@ -101,10 +111,10 @@ module _ {sh : Drawing} (K : Checked sh) (few : sh .edges ≤ mostEdges) where
   -- runs with n rows and with no fewer: the same where the peak of the second is within n, otherwise the first ends without a free row
   module _ (n rows : ℕ) (more : n ≤ rows) where
     cut-within : up rows .state .peak ≤ n → near n ≡ near rows
-    cut-within h = sweep-cut (placesOf sh) plainTable plainJournal (2 * sh .edges) n rows more (drawnEdge sh) (start 0 freeRows noRecords) (sh .edges) (omega arith) .within (omega (arith, h, peak-near rows))
+    cut-within h = sweep-cut (placesOf sh) plainTable plain-alone plainJournal (2 * sh .edges) n rows more (drawnEdge sh) (start 0 freeRows noRecords) (sh .edges) (omega arith) .within (omega (arith, h, peak-near rows))
 
     cut-beyond : n < up rows .state .peak → up n .state .end ≡ NoFreeRow
-    cut-beyond h = sym (same n .end) ∙ sweep-cut (placesOf sh) plainTable plainJournal (2 * sh .edges) n rows more (drawnEdge sh) (start 0 freeRows noRecords) (sh .edges) (omega arith) .beyond (omega (arith, h, peak-near rows))
+    cut-beyond h = sym (same n .end) ∙ sweep-cut (placesOf sh) plainTable plain-alone plainJournal (2 * sh .edges) n rows more (drawnEdge sh) (start 0 freeRows noRecords) (sh .edges) (omega arith) .beyond (omega (arith, h, peak-near rows))
 
   same-run : (n rows : ℕ) → near n ≡ near rows → SameRun (up n) (up rows)
   same-run n rows e =
@@ -131,13 +141,12 @@ module _ {sh : Drawing} (K : Checked sh) (few : sh .edges ≤ mostEdges) where
   pub fewer-refused : (rows n : ℕ) → up rows .state .end ≡ Done → n < up rows .state .peak → up n .state .end ≡ NoFreeRow
   fewer-refused rows n done h = cut-beyond n rows (omega (arith, h, peak-within rows done .0)) h
 
-  -- demand 3 for the peak itself
-  pub peak-at-most : (rows : ℕ) (polygon : ℕ → ℕ) → ((e f : ℕ) → Follows sh e f → polygon f ≡ polygon e) → (c : ℕ) → Enough sh polygon c → c ≤ rows → up rows .state .peak ≤ c
-  peak-at-most rows polygon shared c enough lent = ⊎-elim (λ h. absurd (clash h)) (λ h. h) (lt-or-le c (up rows .state .peak))
+  -- demand 3 for the peak itself: rows that are enough are no fewer than the peak
+  pub peak-at-most : (c rows : ℕ) → up c .state .end ≡ Done → c ≤ rows → up rows .state .peak ≤ c
+  peak-at-most c rows done lent = ⊎-elim (λ h. absurd (clash h)) (λ h. h) (lt-or-le c (up rows .state .peak))
     where
       clash : c < up rows .state .peak → ⊥
       clash h =
-          let a = enough-done c polygon shared c enough (omega arith) in
           let b = cut-beyond c rows lent h in
           let z : _≡_ {A = ℕ} 0 1 = cc in
           omega arith

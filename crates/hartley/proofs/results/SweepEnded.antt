@@ -1,32 +1,31 @@
--- The end of the sweep up: it is done, or no row was free. Where it is done no row below the peak is in use, every edge stands in a closed outline at
--- an index, and the records and the outlines are together at most twice the edges.
+-- The end of the sweep up: it is done, or no row was free. Where it is done every edge stands in a closed outline at an index, and the records and the outlines are
+-- together at most twice the edges.
 use mathlib.Core.Path.{_≡_, refl, ap, sym, subst}
-use mathlib.Core.Bool.{false}
 use mathlib.Core.List.{[]}
 use mathlib.Core.Logic.{_⊎_, inl, inr, ⊎-elim}
 use Prim.Native.Nat.{ℕ, suc, _+_, _-_, _*_, _≤_, _<_}
 use native.Mathlib.Omega.{arith}
-use Rattle.laws.proofs.Deciding.{lt-or-le, true-or-false}
+use Rattle.laws.proofs.Deciding.{lt-or-le}
 use Rattle.steps.specs.declared.End.the-variants.{Done, NoFreeRow}
 use Rattle.steps.specs.Rows.{Row, Record}
 use Rattle.steps.specs.SweepUp.{start, sweepUp}
+use Rattle.steps.specs.Swept.{drawnEdge}
+use Rattle.steps.proofs.Stopping.{stops-at}
 use Rattle.hartley.proofs.results.NearRun.{nearTo, nearRun}
 use Rattle.hartley.proofs.paths.Plan.{Plan, Lawful}
 use Rattle.hartley.proofs.paths.JournalRead.{recs, records-recs}
-use Rattle.hartley.proofs.paths.Paths.{edge, row, out, Paths, size, Chain}
+use Rattle.hartley.proofs.paths.Paths.{edge, out, Paths, size, Chain}
 use Rattle.hartley.proofs.paths.Outlines.{Outs}
 use Rattle.hartley.proofs.paths.JournalLinked.{Naming, Linked}
 use Rattle.hartley.proofs.paths.RecordsCounted.{records, closes, listed}
 use Rattle.hartley.proofs.invariant.TableTied.{State}
 use Rattle.hartley.proofs.invariant.BeforeTheFirst as init
 use Rattle.hartley.proofs.invariant.BeforeTheFirst.{unborn, begin}
-use Rattle.hartley.proofs.invariant.NoRowLeft.{none-live, closed-all}
-use Rattle.hartley.proofs.step.TableSeen.{used-view}
+use Rattle.hartley.proofs.invariant.NoRowLeft.{closed-all}
 use Rattle.hartley.proofs.bounds.LengthsAndLevels.{records-small}
-use Rattle.hartley.proofs.step.StepsSeen.{Work, tableOf, journalOf}
-use Rattle.hartley.proofs.step.Given.{Setting, plan, laws, Held}
-use Rattle.hartley.proofs.step.EdgeInHand.{Crowded}
-use Rattle.hartley.proofs.results.ListSwept.{time, Past, Result, past, stopped, no-rows, no-records, sweep-result}
+use Rattle.hartley.proofs.step.StepsSeen.{Work, journalOf}
+use Rattle.hartley.proofs.step.Given.{Setting, plan, laws, roomIn, Held}
+use Rattle.hartley.proofs.results.ListSwept.{time, Past, Result, past, stopped, Lacking, no-records, sweep-result, lacking-at}
 
 module _ (A : Setting) where
   abbrev sh : Plan
@@ -47,10 +46,12 @@ module _ (A : Setting) where
     pub few : s .records + closes (journalOf s) ≤ 2 * A .sheet .edges
     pub reach-rows : s .reach ≤ A .rows
     pub reach-records : s .reach ≤ s .records
-    pub free : (r : ℕ) → r < s .reach → s .rows r .used ≡ false
     pub held : (k : ℕ) → k < s .records → Held A (s .journal k) (recs (s .journal) k)
 
-  module _ (i : ℕ) (l : i < A .sheet .edges) (last : suc i ≡ A .sheet .edges) (s : Work) (B : Naming) (G : Paths) (Q : Past A i l s B G) where
+  module _ (i : ℕ) (l : i < A .sheet .edges) (last : suc i ≡ A .sheet .edges) (s : Work) (Q : Past A i l s) where
+    abbrev G : Paths
+    G = Q .paths
+
     all-gone : (a : ℕ) → size G (edge a) ≡ 0
     all-gone a = ⊎-elim (λ m. live m) (λ m. omega arith) (lt-or-le 0 (size G (edge a)))
       where
@@ -60,29 +61,19 @@ module _ (A : Setting) where
             let b = Q .inv .state .frame .of-edge _ a 0 f in
             Q .gone a (omega (arith, b .0, Q .inv .state .frame .chain .real _ _ _ f))
 
-    dead : (r : ℕ) → 0 < size G (row r) → ⊥
-    dead r = none-live N (time N i l) (Q .inv .state) all-gone (Q .clean .whole) (row r)
-
-    all-free : (r : ℕ) → r < s .reach → s .rows r .used ≡ false
-    all-free r m = ⊎-elim
-        (λ u. absurd (⊎-elim (dead (B .now r)) (λ d. omega (arith, Q .clean .idle r (used-view (s .rows) (s .reach) r m u) (omega arith))) (lt-or-le 0 (size G (row (B .now r))))))
-        (λ u. u)
-        (true-or-false (s .rows r .used))
-
     at-end : Finished s
     at-end = record {
-      names = B;
+      names = Q .names;
       paths = G;
       chain = Q .inv .state .frame .chain;
       moment = suc i;
       outs = Q .inv .state .frame .outs;
       linked = Q .inv .state .linked;
-      closed = closed-all N (time N i l) (Q .inv .state) all-gone (Q .clean .whole);
+      closed = closed-all N (time N i l) (Q .inv .state) all-gone (Q .clean);
       count-is = Q .inv .state .shuts;
       few = omega (arith, records-small (Q .inv .state) (A .sheet .edges) (omega (arith, Q .listed-is)), records-recs (s .journal) (s .records));
       reach-rows = Q .inv .reach-rows;
       reach-records = Q .inv .reach-records;
-      free = all-free;
       held = Q .inv .held;
     }
 
@@ -90,7 +81,7 @@ module _ (A : Setting) where
   module _ (t : ℕ → Row ℕ) (j : ℕ → Record) where
     empty : A .sheet .edges ≡ 0 → Finished (start 0 t j)
     empty z = record {
-      names = unborn (A .rows);
+      names = unborn;
       paths = init.start (A .sheet .edges);
       chain = I .frame .chain;
       moment = 1;
@@ -101,12 +92,11 @@ module _ (A : Setting) where
       few = omega (arith, records-small I 0 (omega (arith, ap listed (no-records A t j), unlisted)), records-recs j 0);
       reach-rows = omega arith;
       reach-records = omega arith;
-      free = λ r l. absurd (omega arith);
       held = λ k l. absurd (omega arith);
     }
       where
-        I : State sh 0 1 (A .rows) (tableOf (start 0 t j)) (journalOf (start 0 t j)) (unborn (A .rows)) (init.start (A .sheet .edges))
-        I = rw (no-records A t j) (begin sh N 0 (A .rows) (tableOf (start 0 t j)) (no-rows A t j))
+        I : State sh 0 1 t (journalOf (start 0 t j)) unborn (init.start (A .sheet .edges))
+        I = rw (no-records A t j) (begin sh N 0 t)
 
         unlisted : listed [] ≡ 0
         unlisted = unfold listed in refl
@@ -114,10 +104,9 @@ module _ (A : Setting) where
     abbrev over : Work
     over = nearRun (A .sheet) (A .rows) (A .records) t j .state
 
-    -- at which edge there was no row
     pub data Ending (s : Work) : Type 0 where
       finished : s .end ≡ Done → Finished s → Ending s
-      refused : s .end ≡ NoFreeRow → (k : ℕ) (h : k < A .sheet .edges) → Crowded A (time N k h) → Ending s
+      refused : s .end ≡ NoFreeRow → Ending s
 
     pub ending : Ending over
     unfolding sweepUp
@@ -127,8 +116,8 @@ module _ (A : Setting) where
         some i l e = subst (λ k. Ending (nearTo (A .sheet) (A .rows) (A .records) t j k .state)) e (by (sweep-result A t j i l))
           where
             by : {s : Work} → Result A i l s → Ending s
-            by (past B G Q) = finished (Q .inv .is-done) (at-end i l e _ B G Q)
-            by (stopped d k h c) = refused d k h c
+            by (past Q) = finished (Q .inv .is-done) (at-end i l e _ Q)
+            by (stopped d) = refused d
 
         none : A .sheet .edges ≡ 0 → Ending (nearTo (A .sheet) (A .rows) (A .records) t j 0 .state)
         none z = finished refl (empty z)
@@ -139,18 +128,17 @@ module _ (A : Setting) where
       where
         by : {s : Work} → Ending s → (s .end ≡ Done) ⊎ (s .end ≡ NoFreeRow)
         by (finished e F) = inl e
-        by (refused e k h c) = inr e
+        by (refused e) = inr e
 
     pub when-done : over .end ≡ Done → Finished over
     when-done d = by ending d
       where
         by : {s : Work} → Ending s → s .end ≡ Done → Finished s
         by (finished e F) d = F
-        by (refused e k h c) d = let z : _≡_ {A = ℕ} 0 1 = cc in absurd (omega arith)
+        by (refused e) d = let z : _≡_ {A = ℕ} 0 1 = cc in absurd (omega arith)
 
-    pub when-refused : over .end ≡ NoFreeRow → (k : ℕ) × (h : k < A .sheet .edges) × Crowded A (time N k h)
-    when-refused d = by ending d
-      where
-        by : {s : Work} → Ending s → s .end ≡ NoFreeRow → (k : ℕ) × (h : k < A .sheet .edges) × Crowded A (time N k h)
-        by (finished e F) d = let z : _≡_ {A = ℕ} 0 1 = cc in absurd (omega arith)
-        by (refused e k h c) d = (k, h, c)
+    -- where no row was free, at which edge
+    pub when-refused : over .end ≡ NoFreeRow → (k : ℕ) × (h : k < A .sheet .edges) × Lacking A k h (nearTo (A .sheet) (A .rows) (A .records) t j k .state)
+    when-refused d =
+        let S = stops-at (roomIn A) (drawnEdge (A .sheet)) (start 0 t j) refl (A .sheet .edges) d in
+        (_, S .is-edge, lacking-at A t j _ (S .is-edge) (S .before) (S .lacking))

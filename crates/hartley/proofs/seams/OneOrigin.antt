@@ -11,7 +11,7 @@ pub data Reach (own-level : Owner → ℕ) (B : Owner → Owner → Type 0) (Tip
 
 module _ (own-level : Owner → ℕ) (B : Owner → Owner → Type 0) (Tip : Owner → ℕ → Type 0) (one-B : (x x′ y : Owner) → B x y → B x′ y → x ≡ x′)
     (one-Tip : (x x′ : Owner) (e : ℕ) → Tip x e → Tip x′ e → x ≡ x′) where
-  pub reach-end : {x : Owner} {e : ℕ} → Reach own-level B Tip x e → (o : Owner) × Tip o e × (own-level o ≤ own-level x)
+  reach-end : {x : Owner} {e : ℕ} → Reach own-level B Tip x e → (o : Owner) × Tip o e × (own-level o ≤ own-level x)
   reach-end (here {x = x} t) = (x, t, omega arith)
   reach-end (further b l r) = let w = reach-end r in (w .0, w .1, omega arith)
 

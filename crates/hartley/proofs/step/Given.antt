@@ -17,8 +17,6 @@ use Rattle.hartley.proofs.paths.Differences.{diff}
 use Rattle.hartley.proofs.paths.DownLaw.{Name, ofEdge, ofRow, nameAt, Rec, put, at, place}
 use Rattle.hartley.proofs.paths.TableWritten.{put-at, put-off}
 use Rattle.hartley.proofs.paths.JournalRead.{recs, recs-older}
-use Rattle.hartley.proofs.step.OutlineClosed.{closing}
-use Rattle.hartley.proofs.step.BothPassedUp.{first}
 use Rattle.sheet.specs.Amounts.{mostEdges}
 
 -- a checked list, and the room lent

@@ -7,18 +7,20 @@ use mathlib.Core.Logic.{_⊎_, inl, inr, ⊎-elim}
 use Prim.Native.Nat.{ℕ, suc, _+_, _≤_, _<_}
 use native.Mathlib.Omega.{arith}
 use lib.IntN.{pos}
+use lib.Dec.{ltb}
 use borrow.Author.Tests.{lt-ltb, le-leb}
 use Rattle.laws.proofs.Deciding.{not-both}
 use Rattle.sheet.specs.Edges.{Drawing}
 use Rattle.steps.specs.declared.Side.{Side}
 use Rattle.steps.specs.declared.Found.the-variants.{At, Nothing}
 use Rattle.steps.specs.declared.End.the-variants.{Overrun}
-use Rattle.steps.specs.Rows.{otherSide, on, Row, Record, LevelEdge, Room, closing}
+use Rattle.steps.specs.Rows.{otherSide, on, Row, Record, LevelEdge, Room, closing, lowestFree}
 use Rattle.steps.specs.SweepUp as up
 use Rattle.steps.specs.SweepUp.{State, hasTip, signed, mostLength}
 use Rattle.steps.specs.Plain as plain
 use Rattle.steps.specs.Plain.{plainTable, plainJournal, newRow, freeRow}
 use Rattle.steps.specs.Swept.{placesOf, plainRoom}
+use Rattle.steps.proofs.Alone.{plain-alone, can-open}
 use Rattle.laws.proofs.Lowest.{lowest-is}
 use Rattle.hartley.proofs.paths.DownLaw.{Rec, put, close, ofRow, nameAt}
 use Rattle.hartley.proofs.paths.JournalRead.{recs, recs-written}
@@ -42,23 +44,23 @@ module _ (sh : Drawing) (n m : ℕ) where
   room = plainRoom sh n m
 
   -- steps 1 and 4
-  pub find-at : (s : Work) (level : ℕ) (side : Side) (p r : ℕ) → up.find room s level side p ≡ At r → (r < s .reach) × HasTip (tableOf s) side level p r
+  pub find-at : (s : Work) (level : ℕ) (side : Side) (p r : ℕ) → up.find room s level side p ≡ At r → (r < s .reach) × HasTip (tableOf s r) side level p
   unfolding up.find plainTable
   find-at s level side p r e =
-      let f = found-at (λ r. hasTip (placesOf sh) level side p (s .rows r)) (s .reach) r e in
+      let f = found-at (λ r. s .rows r .used && hasTip (placesOf sh) level side p (s .rows r)) (s .reach) r e in
       (f .0, tip-of sh (s .rows) (s .reach) level p side r (f .0) (f .1))
 
-  pub find-none : (s : Work) (level : ℕ) (side : Side) (p : ℕ) → up.find room s level side p ≡ Nothing → (r : ℕ) → HasTip (tableOf s) side level p r → ⊥
+  pub find-none : (s : Work) (level : ℕ) (side : Side) (p : ℕ) → up.find room s level side p ≡ Nothing → (r : ℕ) → HasTip (tableOf s r) side level p → ⊥
   unfolding up.find plainTable
   find-none s level side p e r t =
       let h = tip-to sh (s .rows) (s .reach) level p side r t in
-      let f = found-none (λ r. hasTip (placesOf sh) level side p (s .rows r)) (s .reach) e r (h .0) in
+      let f = found-none (λ r. s .rows r .used && hasTip (placesOf sh) level side p (s .rows r)) (s .reach) e r (h .0) in
       not-both (h .1) f
 
-  -- the lowest free row opened
+  -- the lowest free row, and it opened
   module _ (s : Work) (level p : ℕ) where
     abbrev r : ℕ
-    r = up.lowestFree room s
+    r = up.chosen room s
 
     abbrev s₁ : Work
     s₁ = up.open-row room s r level p
@@ -71,7 +73,7 @@ module _ (sh : Drawing) (n m : ℕ) where
       pub reach : ((r < s .reach) × (s₁ .reach ≡ s .reach)) ⊎ ((r ≡ s .reach) × (s₁ .reach ≡ suc (s .reach)) × ((x : ℕ) → x < s .reach → s .rows x .used ≡ true))
 
     pub open-is : Opened
-    unfolding up.open-row up.lowestFree plainTable
+    unfolding up.open-row up.chosen lowestFree plainTable
     open-is = ⊎-elim
         (λ h. record {
           free = ap (λ (v : Row ℕ). v .used) (view-in (s .rows) (s .reach) _ (h .0)) ∙ h .1;
@@ -86,6 +88,14 @@ module _ (sh : Drawing) (n m : ℕ) where
           reach = inr h;
         })
         (lowest-is (λ x. s .rows x .used) (s .reach))
+
+    -- one may be opened where a row within the reach is free, and only where one of those lent is
+    pub opens : s .reach ≤ n → up.canOpen room s ≡ ltb r n
+    opens l = can-open room plain-alone s refl (λ i a b. absurd (omega arith))
+
+    pub spare-low : (i : ℕ) → i < s .reach → s .rows i .used ≡ false → r < s .reach
+    unfolding up.chosen lowestFree plainTable
+    spare-low i l u = ⊎-elim (λ h. h .0) (λ h. absurd (not-both (h .2 i l) u)) (lowest-is (λ x. s .rows x .used) (s .reach))
 
     pub open-journal : (s₁ .journal ≡ s .journal) × (s₁ .records ≡ s .records) × (s₁ .end ≡ s .end)
     unfolding up.open-row

@@ -1,5 +1,5 @@
--- The plain table of a state as the theory sees it: rows that the peak has not reached are not in use, whatever the table holds there. What the steps do to a
--- row below the peak they do to what is seen; what a search finds is a tip there.
+-- The plain table of a state as the theory sees it: rows that were never within the reach are not in use, whatever the table holds there. What the steps do to a
+-- row within it they do to what is seen; what a search finds is a tip there.
 use mathlib.Core.Path.{_≡_, refl, ap, sym, _∙_, fun-ext}
 use mathlib.Core.Bool.{Bool, true, false, not, _&&_, cond}
 use mathlib.Core.Logic.{_⊎_, ⊎-elim}
@@ -93,7 +93,7 @@ module _ (test : ℕ → Bool) (n : ℕ) where
       by false f h = first-least test n r (omega (arith, ltb-false (first test n) n f))
 
 module _ (sh : Drawing) (t : ℕ → Row ℕ) (peak level p : ℕ) (s : Side) (r : ℕ) where
-  pub tip-of : r < peak → hasTip (placesOf sh) level s p (t r) ≡ true → HasTip (view t peak) s level p r
+  pub tip-of : r < peak → (t r .used && hasTip (placesOf sh) level s p (t r)) ≡ true → HasTip (view t peak r) s level p
   unfolding hasTip view
   tip-of l h =
       let a = both-true (t r .used) _ h in
@@ -101,7 +101,7 @@ module _ (sh : Drawing) (t : ℕ → Row ℕ) (peak level p : ℕ) (s : Side) (r
       let c = both-true (not (on s (t r .branch) .finished)) _ (b .1) in
       record { used = ap (λ d. d && t r .used) (lt-ltb r peak l) ∙ a .0; level-is = eqb-true _ _ (b .0); unfinished = not-true _ (c .0); tip-is = eqb-true _ _ (c .1) }
 
-  pub tip-to : HasTip (view t peak) s level p r → (r < peak) × (hasTip (placesOf sh) level s p (t r) ≡ true)
+  pub tip-to : HasTip (view t peak r) s level p → (r < peak) × ((t r .used && hasTip (placesOf sh) level s p (t r)) ≡ true)
   unfolding hasTip view
   tip-to h =
       let b = both-true (ltb r peak) (t r .used) (h .used) in

@@ -5,15 +5,14 @@ use mathlib.Core.Path.{_≡_, _∙_, sym}
 use mathlib.Core.Bool.{false}
 use borrow.Author.Needs.{needs}
 use borrow.Author.Count.{below-more}
-use Rattle.steps.specs.SweepUp.{hasTip}
-use Rattle.rows.specs.Layout.{filmPlaces, lookRow}
+use Rattle.rows.specs.Layout.{hasTipIn}
 use Rattle.rows.proofs.Searching.{found, nothing, past-no-tip}
 use Rattle.rows.proofs.Marking.{none-before}
 use Rattle.rows.proofs.find.Statement.{statement}
 use Rattle.rows.proofs.find.Tie as tie
 
 abbrev Inv-loop : tie.InvT-loop
-Inv-loop rows marks peak level side tip n r₀ r = (k : ℕ) → k < r → k < peak → hasTip filmPlaces level side tip (lookRow rows k) ≡ false
+Inv-loop rows marks peak level side tip n r₀ r = (k : ℕ) → k < r → k < peak → hasTipIn rows level side tip k ≡ false
 
 abbrev μ-loop : tie.MeasureT-loop
 μ-loop rows marks peak level side tip n r₀ r = n - r
@@ -28,7 +27,7 @@ returns c =
     let a = c .before .before .before .before .before .before .before .args in
     let l = c .before .before .before .loop in
     let n = c .before .before .before .before .before .lower-of in
-    found (λ k. hasTip filmPlaces (a .level) (a .side) (a .tip) (lookRow (a .rows .now) k)) (a .peak) (n .result) (omega (arith, n .ensures))
+    found (hasTipIn (a .rows .now) (a .level) (a .side) (a .tip)) (a .peak) (n .result) (omega (arith, n .ensures))
     (l .r) (c .before .before .loop-test .taken) (sym (c .before .has-tip .ensures) ∙ c .if1 .taken) (λ k h. l .inv k h (omega (arith, h, n .ensures, c .before .before .loop-test .taken)))
 
 loop-again : tie.Need-loop-again Inv-loop μ-loop
@@ -38,7 +37,7 @@ returns-2 : tie.Need-returns-2 Inv-loop μ-loop
 returns-2 c =
     let a = c .before .before .before .before .before .args in
     let n = c .before .before .before .lower-of in
-    nothing (λ k. hasTip filmPlaces (a .level) (a .side) (a .tip) (lookRow (a .rows .now) k)) (a .peak) (n .result) (omega (arith, n .ensures))
+    nothing (hasTipIn (a .rows .now) (a .level) (a .side) (a .tip)) (a .peak) (n .result) (omega (arith, n .ensures))
     (λ k h. c .before .loop .inv k (omega (arith, h, c .loop-test .left)) (omega (arith, h, n .ensures)))
     (λ k h l. past-no-tip (a .rows .now) (a .level) (a .side) (a .tip) k (omega (arith, h, l, n .ensures)))
 

@@ -1,6 +1,7 @@
 //! "The sweep down" of document 01: the journal read from its last record to
-//! its first, every row holding the numbers last given to it. Only for a
-//! journal that the sweep up has written.
+//! its first, every row holding the numbers last given to it. Where a record is
+//! named by its own chain's row, that row is read before it is given the record's
+//! numbers. Only for a journal that the sweep up has written.
 
 use crate::numbering::Numbering;
 

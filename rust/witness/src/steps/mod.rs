@@ -23,7 +23,8 @@ pub const NO_ROW: i32 = -1;
 pub struct Record {
     /// 0 for an edge of the list, more for edges made of chains.
     pub level: i32,
-    /// The edge's place in the list, or the row that it came from.
+    /// The edge's place in the list, or the row that it came from, which may be
+    /// its chain's row too.
     pub name: i32,
     /// The row of its chain, or [`NO_ROW`] where an outline closes.
     pub row: i32,

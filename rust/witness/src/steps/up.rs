@@ -1,8 +1,9 @@
-//! "The sweep up" of document 01: edges are hung on the rising and falling
-//! branches of chains, one row a chain; a chain finished on both sides is
-//! passed up as an edge of the next level. An edge hangs only on chains of its
-//! own film. Each of the paper's four steps has its functions, said once for
-//! both directions with `Branch` choosing. Only for sound lists in sweep order.
+//! "The sweep up" of document 01, rows given back in the order of M-103: edges
+//! are hung on the rising and falling branches of chains, one row a chain; a
+//! chain finished on both sides gives its row back and is passed up as an edge
+//! of the next level. An edge hangs only on chains of its own film. Each of the
+//! paper's four steps has its functions, said once for both directions with
+//! `Branch` choosing. Only for sound lists in sweep order.
 
 use crate::geometry::{Edge, Point, Site};
 
@@ -141,7 +142,9 @@ impl Sweep {
     }
 
     /// Step 4: where the other branch of some chain waits at the top, the two
-    /// branches are finished, and so perhaps are their chains.
+    /// branches are finished, and so perhaps are their chains. What waited goes
+    /// up first, and all that this sets going is over before the row of the
+    /// other is given back.
     fn finish(
         &mut self,
         row: usize,
@@ -162,21 +165,20 @@ impl Sweep {
         self.pass_up_if_finished(row)
     }
 
-    /// Passes a finished chain up as an edge of the next level, then frees its
-    /// row; the row stays in use until all that this sets going is over.
+    /// Frees the row of a finished chain and passes the chain up as an edge of
+    /// the next level, which may open the very same row.
     fn pass_up_if_finished(&mut self, row: usize) -> Result<(), NoFreeRow> {
         let chain = *self.in_use(row);
         if !chain.is_finished() {
             return Ok(());
         }
+        self.rows[row] = None;
         let edge = Edge::new(chain.falling.tip, chain.rising.tip, chain.film);
         let lengths = Lengths {
             falling: chain.falling.length,
             rising: chain.rising.length,
         };
-        self.treat(edge, chain.level + 1, row as i32, lengths)?;
-        self.rows[row] = None;
-        Ok(())
+        self.treat(edge, chain.level + 1, row as i32, lengths)
     }
 
     fn in_use(&self, row: usize) -> &Row {

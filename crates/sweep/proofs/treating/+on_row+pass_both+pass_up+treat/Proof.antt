@@ -8,13 +8,11 @@ use mathlib.Core.Path.{_≡_, sym, _∙_}
 use mathlib.Core.List.{[]}
 use lib.ListN.{length}
 use borrow.Author.Tests.{not-true, not-false}
-use Rattle.steps.specs.SweepUp as up
 use Rattle.rows.specs.Layout.{HasRow}
 use Rattle.rows.proofs.Searching.{found-there, found-level}
 use Rattle.rows.proofs.Marking.{marked-freed}
-use Rattle.sweep.specs.Slices.{lentRoom, edgeOf}
-use Rattle.sweep.proofs.Rooms.{lowest-is}
-use Rattle.sweep.proofs.Ways.{met-there, up-unfinished, up-stopped, up-freed, both-one, both-stopped, both-passed, row-stopped, row-unmet, row-met, treat-closed, treat-none-left, Searched, treat-found, treat-no-row, treat-opened}
+use Rattle.sweep.specs.Slices.{edgeOf}
+use Rattle.sweep.proofs.Ways.{met-there, up-unfinished, up-passed, both-one, both-stopped, both-passed, row-stopped, row-unmet, row-met, treat-closed, treat-none-left, Searched, treat-found, treat-no-row, treat-opened}
 use Rattle.sweep.proofs.Marks.{marked-by, closing-peak, opened-level, marked-met}
 use borrow.Fn.Kinds.{In}
 use borrow.Fn.PlainCycle.{Measures, is, falls, and}
@@ -117,12 +115,10 @@ pass-up-calls t = (
   both-finished-reads.Learnt,
   as-edge-reads.Asked,
   as-edge-reads.Learnt,
-  treat-below t,
-  treat.Post,
-  is-done-reads.Asked,
-  is-done-reads.Learnt,
   free-row-reads.Asked,
   free-row-reads.Learnt,
+  treat-below t,
+  treat.Post,
 )
 
 abbrev pass-both-calls : ℕ → pass-both-lts.Claims
@@ -285,50 +281,30 @@ pass-up-returns t c =
     let c₁ = c .before in
     let c₄ = c₁ .before .before .before in
     let g = c₄ .args in
-    (up-unfinished (g .rows .now) (g .journal .now) (up.treat (lentRoom (g .rows .now) (g .journal .now)) (g .left - 1) (g .level + 1)) (g .s) (g .r) (c₁ .both-finished .ensures) (not-true _ (c .if1 .taken)), c₄ .pre .1 .1)
+    (up-unfinished (g .rows .now) (g .journal .now) (g .left - 1) (g .level + 1) (g .s) (g .r) (c₁ .both-finished .ensures) (not-true _ (c .if1 .taken)), c₄ .pre .1 .1)
 
 pass-up-treat-requires : (t : ℕ) → pass-up-lts.Need-treat-requires (pass-up-calls t) (pass-up-at t) pass-up.Post
 pass-up-treat-requires t c κs =
-    let c₃ = c .before .before .before in
-    let c₉ = c₃ .before .before .before .before .before .before in
-    let pre = c₉ .pre in
-    (omega (arith, pre .0, pre .1 .0 .2), ((omega (arith, pre .1 .0 .1, pre .1 .0 .2), c₃ .as-edge .ensures .1), pre .1 .1))
+    let c₄ = c .before .before .before .before in
+    let c₆ = c₄ .before .before in
+    let c₁₂ = c₆ .before .before .before .before .before .before in
+    let pre = c₁₂ .pre in (
+      omega (arith, pre .0, pre .1 .0 .2),
+      ((omega (arith, pre .1 .0 .1, pre .1 .0 .2), c₆ .as-edge .ensures .1), rw (c₄ .free-row .ensures) (marked-freed (pre .1 .1) (c₁₂ .args .r) (pre .1 .0 .0))),
+    )
 
 pass-up-returns-2 : (t : ℕ) → pass-up-lts.Need-returns-2 (pass-up-calls t) (pass-up-at t) pass-up.Post
 pass-up-returns-2 t c =
-    let c₁ = c .before in
-    let c₆ = c₁ .before .before .before .before .before in
-    let c₁₀ = c₆ .before .before .before .before in
-    let c₁₂ = c₁₀ .before .before in
-    let c₁₃ = c₁₂ .before in
-    let c₁₆ = c₁₃ .before .before .before in
-    let g = c₁₆ .args in (
-      up-stopped (g .rows .now) (g .journal .now) (up.treat (lentRoom (g .rows .now) (g .journal .now)) (g .left - 1) (g .level + 1)) (g .s) (g .r) (c₁₃ .both-finished .ensures) (not-false _ (c₁₂ .if1 .left))
-          (c₁₀ .as-edge .ensures .0) (c₆ .treat .ensures .0) (sym (c₁ .is-done .ensures) ∙ not-true _ (c .if2 .taken)),
-      c₆ .treat .ensures .1,
-    )
-
-pass-up-free-row-requires : (t : ℕ) → pass-up-lts.Need-free-row-requires (pass-up-calls t) (pass-up-at t) pass-up.Post
-pass-up-free-row-requires t c κs =
-    let c₇ = c .before .before .before .before .before .before .before in
-    let c₁₇ = c₇ .before .before .before .before .before .before .before .before .before .before in
-    omega (arith, c₁₇ .pre .1 .0 .0, c₇ .treat .kept)
-
-pass-up-returns-3 : (t : ℕ) → pass-up-lts.Need-returns-3 (pass-up-calls t) (pass-up-at t) pass-up.Post
-pass-up-returns-3 t c =
-    let c₁ = c .before in
-    let c₃ = c₁ .before .before in
-    let c₄ = c₃ .before in
+    let c₄ = c .before .before .before .before in
     let c₉ = c₄ .before .before .before .before .before in
-    let c₁₃ = c₉ .before .before .before .before in
-    let c₁₅ = c₁₃ .before .before in
-    let c₁₆ = c₁₅ .before in
-    let c₁₉ = c₁₆ .before .before .before in
-    let g = c₁₉ .args in
-    let has : HasRow (c₉ .treat .last .0) (g .r) = omega (arith, c₁₉ .pre .1 .0 .0, c₉ .treat .kept .0) in (
-      up-freed (g .rows .now) (g .journal .now) (up.treat (lentRoom (g .rows .now) (g .journal .now)) (g .left - 1) (g .level + 1)) (g .s) (g .r) (c₁₆ .both-finished .ensures) (not-false _ (c₁₅ .if1 .left))
-          (c₁₃ .as-edge .ensures .0) (c₉ .treat .ensures .0) (sym (c₄ .is-done .ensures) ∙ not-false _ (c₃ .if2 .left)) (c₁ .free-row .ensures),
-      rw (c₁ .free-row .ensures) (marked-freed (c₉ .treat .ensures .1) (g .r) has),
+    let c₁₁ = c₉ .before .before in
+    let c₁₃ = c₁₁ .before .before in
+    let c₁₄ = c₁₃ .before in
+    let c₁₇ = c₁₄ .before .before .before in
+    let g = c₁₇ .args in (
+      up-passed (g .rows .now) (g .journal .now) (g .left - 1) (g .level + 1) (g .s) (g .r) (c₁₄ .both-finished .ensures) (not-false _ (c₁₃ .if1 .left))
+          (c₁₁ .as-edge .ensures .0) (c₉ .free-row .ensures) (c₉ .free-row .kept .0) (c₄ .treat .ensures .0),
+      c₄ .treat .ensures .1,
     )
 
 treat-returns : (t : ℕ) → treat-lts.Need-returns (treat-calls t) (treat-at t) treat.Post
@@ -389,8 +365,7 @@ treat-open-lowest-requires t c κs =
     let c₃ = c₂ .before in
     let c₅ = c₃ .before .before in
     let c₁₉ = c₅ .before .before .before .before .before .before .before .before .before .before .before .before .before .before in
-    let g = c₁₉ .args in
-    ((omega (arith, c₂ .if3 .left, c₃ .rows-in .ensures), omega (arith, c₁₉ .pre .1 .0 .0), lowest-is (g .rows .now) (g .s) (c₅ .lowest-free .ensures)), c₁₉ .pre .1 .1)
+    ((omega (arith, c₂ .if3 .left, c₃ .rows-in .ensures), omega (arith, c₁₉ .pre .1 .0 .0), c₅ .lowest-free .ensures), c₁₉ .pre .1 .1)
 
 treat-on-row-requires : (t : ℕ) → treat-lts.Need-on-row-requires (treat-calls t) (treat-at t) treat.Post
 treat-on-row-requires t c κs =
@@ -458,10 +433,8 @@ pub +on-row+pass-both+pass-up+treat-spec : {M : Type 1} → statement M
     (λ t. pass-up-lts.spec (pass-up-calls t) (pass-up-at t)
     pass-up.Post
     (search needs) (search needs) (pass-up-returns t)
-    (search needs) (search needs) (search needs) (pass-up-treat-requires t)
-    (search needs) (search needs) (search needs) (search needs) (pass-up-returns-2 t)
-    (pass-up-free-row-requires t)
-    (search needs) (search needs) (search needs) (pass-up-returns-3 t))
+    (search needs) (search needs) (search needs) (search needs) (pass-up-treat-requires t)
+    (search needs) (search needs) (search needs) (pass-up-returns-2 t))
     λ t. treat-lts.spec (treat-calls t) (treat-at t)
     treat.Post
     (search needs) (search needs) (search needs) (treat-returns t)

@@ -1,5 +1,4 @@
 -- `sweep::treating::meeting` meets its contract: nothing at a place that is apart, otherwise what `rows::find` finds.
-use borrow.Author.Needs.{needs}
 use Rattle.steps.specs.SweepUp as up
 use Rattle.sweep.proofs.treating.meeting.Statement.{statement}
 use Rattle.sweep.proofs.treating.meeting.Tie as tie

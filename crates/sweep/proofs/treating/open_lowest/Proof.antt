@@ -1,6 +1,5 @@
 -- `sweep::treating::open_lowest` meets its contract. The row opened and marked, and the peak by its name.
 use borrow.Author.Needs.{needs}
-use mathlib.Core.List.{[]}
 use Rattle.rows.proofs.Marking.{marked-opened}
 use Rattle.sweep.proofs.Attaching.{opened}
 use Rattle.sweep.proofs.Marks.{lowest-low}
@@ -15,9 +14,9 @@ returns c =
     let c₁₃ = c₁₀ .before .before .before in
     let g = c₁₃ .args in
     let pre = c₁₃ .pre in (
-      λ b. opened (g .rows .now) b (g .s) (g .r) (g .level) (g .tip) (pre .0 .2 b) (c₁₀ .open-row .ensures) (c .in-use .ensures),
+      λ b. opened (g .rows .now) b (g .s) (g .r) (g .level) (g .tip) (pre .0 .2) (c₁₀ .open-row .ensures) (c .in-use .ensures),
       rw (c₃ .mark2 .ensures, c₇ .mark .ensures, c₁₀ .open-row .ensures, c .in-use .ensures)
-          (marked-opened (pre .1) (g .r) (pre .0 .0) (lowest-low (g .rows .now) [] (g .s) (g .r) (g .level) (g .tip) (pre .0 .2 [])) (g .level) (g .tip)),
+          (marked-opened (pre .1) (g .r) (pre .0 .0) (lowest-low (g .rows .now) (g .s .peak) (pre .0 .2)) (g .level) (g .tip)),
     )
 
 pub open-lowest-spec : {M : Type 1} → statement M
