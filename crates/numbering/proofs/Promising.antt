@@ -30,7 +30,7 @@ use Rattle.steps.specs.Swept.{rowsIn, readDown, LacksRow, LacksItself}
 use Rattle.steps.proofs.Reaching.{SameRun}
 use Rattle.hartley.proofs.results.Results as results
 use Rattle.numbering.specs.Outcome.{Lent, Left, callOf, up, down, answerBy, leaves, outcome, leftAs}
-use Rattle.numbering.specs.Promised.{Promised, RowsEnough, withOtherRows}
+use Rattle.numbering.specs.Promised.{Promised, RowsEnough, fewerRows, withOtherRows}
 use Rattle.numbering.proofs.Leaving.{never-ten}
 use Rattle.numbering.proofs.Renamed.{numbering-same}
 use Rattle.numbering.proofs.Running.{few, ends, numbers, records-and-polygons, outcome-by}
@@ -104,7 +104,7 @@ module _ (l : Lent) where
   enough-rows ok E h =
       (_, _, _, ap (λ x. x .answer) (outcome-by l ok (results.enough-done (passed (callOf l) ok .sheet) (few l ok) (rowsIn (l .rows)) (E .polygon) (E .numbering .shared) (E .rows) (E .enough) h)))
 
-  fewer-enough : checked (callOf l) ≡ check.Passed → (E : RowsEnough l) → 1 + E .enough .log * (E .enough .C - 2) ≤ rowsIn (l .rows) → (polygons : ℕ) × (peak : ℕ) × (records : ℕ) × (outcome l .answer ≡ Accepted polygons peak records)
+  fewer-enough : checked (callOf l) ≡ check.Passed → (E : RowsEnough l) → fewerRows E ≤ rowsIn (l .rows) → (polygons : ℕ) × (peak : ℕ) × (records : ℕ) × (outcome l .answer ≡ Accepted polygons peak records)
   unfolding up drawingOf
   fewer-enough ok E h =
       (_, _, _, ap (λ x. x .answer) (outcome-by l ok (results.fewer-done (passed (callOf l) ok .sheet) (few l ok) (rowsIn (l .rows)) (E .polygon) (E .numbering .shared) (E .rows) (E .enough) h)))

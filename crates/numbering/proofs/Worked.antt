@@ -1,6 +1,6 @@
 -- The sheets of document 01 that are marked there, with the peaks that M-103 gives them, and sheets of several films, worked by the numbering's own definition: one table, one test that is
--- computed over all of it. With three of them, engines that cannot keep the promise: for each a short refutation.
-use Prim.Native.Nat.{ℕ, _*_, _/_, _≤_}
+-- computed over all of it. With three of them, engines that cannot keep the promise: for each a short refutation. With two, what demand 3 asks for is met.
+use Prim.Native.Nat.{ℕ, _+_, _-_, _*_, _/_, _≤_}
 use mathlib.Core.Path.{_≡_, refl, sym, ap, _∙_}
 use mathlib.Core.Bool.{Bool, true, false, _&&_}
 use mathlib.Core.List.{List, [], _∷_, map}
@@ -13,6 +13,7 @@ use Rattle.laws.specs.Listing as listing
 use Rattle.sheet.specs.declared.Answer.{Answer}
 use Rattle.sheet.specs.declared.Answer.the-variants.{Accepted, Refused}
 use Rattle.sheet.specs.declared.Refusal.{Refusal}
+use Rattle.sheet.specs.declared.Refusal.the-variants.{NoRow}
 use Rattle.sheet.specs.Points as points
 use Rattle.sheet.specs.Rank as ranks
 use Rattle.sheet.specs.Edges as edges
@@ -22,6 +23,7 @@ use Rattle.sheet.specs.Passing.{passing, Most}
 use Rattle.sheet.specs.Kinds as kinds
 use Rattle.sheet.specs.Answers as answers
 use Rattle.sheet.specs.Answers.{numberOf, placeOf}
+use Rattle.sheet.proofs.WorkedRows as worked
 use Rattle.sheet.proofs.Drawn.{triangle, twoEdges, square, twoPeaks, touching, threePairs, sharedSide, sideTwice, oneTop, oneTopAround, touchingFilms}
 use Rattle.steps.specs.Rows as rows
 use Rattle.steps.specs.SweepUp as up
@@ -30,9 +32,10 @@ use Rattle.steps.specs.Plain as plain
 use Rattle.steps.specs.Swept as swept
 use Rattle.numbering.specs.Outcome as outcomes
 use Rattle.numbering.specs.Outcome.{Lent, Left, outcome}
-use Rattle.numbering.specs.Promised.{Promised}
+use Rattle.numbering.specs.Promised.{Promised, RowsEnough, fewerRows}
+use Rattle.numbering.proofs.Promising.{promised}
 use Rattle.sheet.specs.Amounts.{numbersPerEdge, journalNumbersPerEdge}
-use Rattle.steps.specs.Swept.{numbersPerRow}
+use Rattle.steps.specs.Swept.{numbersPerRow, LacksItself}
 
 -- a sheet with the lengths of the slices lent, and what 01 says of it: refusal and place, or 0, 0; polygons, peak, records; the two lists
 pub record Expected : Type 0 where
@@ -132,6 +135,9 @@ pub two-touching : Expected
 two-touching =
     accepted touching 3 2 3 11 (2 ∷ 2 ∷ 1 ∷ 2 ∷ 2 ∷ 1 ∷ 1 ∷ []) (1 ∷ 2 ∷ 1 ∷ 3 ∷ 0 ∷ 2 ∷ 0 ∷ [])
 
+one-row-for-two-peaks : Expected
+one-row-for-two-peaks = refused twoPeaks 1 10 1
+
 three-pairs : Expected
 three-pairs = accepted threePairs 1 3 1 9 (3 ∷ 3 ∷ 2 ∷ 2 ∷ 1 ∷ 1 ∷ []) (1 ∷ 0 ∷ 1 ∷ 0 ∷ 1 ∷ 0 ∷ [])
 
@@ -143,7 +149,7 @@ sheets =
     ∷ accepted twoEdges 1 1 1 3 (1 ∷ 1 ∷ []) (1 ∷ 0 ∷ [])
     ∷ accepted square 1 1 1 5 (1 ∷ 1 ∷ 1 ∷ 1 ∷ []) (2 ∷ 1 ∷ 3 ∷ 0 ∷ [])
     ∷ accepted twoPeaks 2 1 2 7 (1 ∷ 1 ∷ 1 ∷ 1 ∷ []) (1 ∷ 2 ∷ 3 ∷ 0 ∷ [])
-    ∷ refused twoPeaks 1 10 1
+    ∷ one-row-for-two-peaks
     ∷ two-touching
     ∷ three-pairs
     ∷ accepted sharedSide 2 2 2 10 (2 ∷ 1 ∷ 2 ∷ 2 ∷ 2 ∷ 1 ∷ 1 ∷ 1 ∷ []) (2 ∷ 2 ∷ 1 ∷ 3 ∷ 0 ∷ 1 ∷ 3 ∷ 0 ∷ [])
@@ -169,7 +175,7 @@ sheets =
 trianglePlace : ℕ
 trianglePlace = topHeight (drawingOf (lentFor one-triangle .list)) 0
 
--- all of the table, and of three sheets what the refutations below need, and the turn list of the touching one (crates/assembly)
+-- all of the table, and of four sheets what the laws below need, and the turn list of the touching one (crates/assembly)
 pub record AllWorked : Type 0 where
   right-all : allRight sheets ≡ true
   of-empty : outcome (lentFor empty) .answer ≡ Accepted 0 0 0
@@ -181,6 +187,7 @@ pub record AllWorked : Type 0 where
   lists-of-pairs : outcome (lentFor three-pairs) .polygons ≡ 3 ∷ 3 ∷ 2 ∷ 2 ∷ 1 ∷ 1 ∷ []
   of-pairs : outcome (lentFor three-pairs) .answer ≡ Accepted 3 1 9
   pub of-touching : outcome (lentFor two-touching) .answer ≡ Accepted 2 3 11
+  of-one-row : outcome (lentFor one-row-for-two-peaks) .answer ≡ Refused (NoRow 1)
   passing-triangle : passing (drawingOf (lentFor one-triangle .list)) trianglePlace ≡ 2
 
 pub all-worked : AllWorked
@@ -190,6 +197,7 @@ unfolding
     accepted
     refused
     refusedWith
+    one-row-for-two-peaks
     three-pairs
     sheets
     empty
@@ -278,8 +286,32 @@ all-worked =
       lists-of-pairs = refl;
       of-pairs = refl;
       of-touching = refl;
+      of-one-row = refl;
       passing-triangle = refl;
     }
+
+-- the rows that are enough for the touching sheet, and the fewer ones
+touching-rows : RowsEnough (lentFor two-touching)
+unfolding two-touching accepted
+touching-rows =
+    let N = promised (lentFor two-touching) (outcome (lentFor two-touching)) refl .numbered 2 3 11 (all-worked .of-touching) in
+    record {
+      polygon = λ e. getD (2 ∷ 2 ∷ 1 ∷ 2 ∷ 2 ∷ 1 ∷ 1 ∷ []) e 0;
+      sequence = λ e. getD (outcome (lentFor two-touching) .sequences) e 0;
+      polygons = 2;
+      numbering = rw (all-worked .lists-of-touching) at N;
+      rows = 8;
+      enough = worked.table .of-touching .are-enough;
+    }
+
+five-rows : fewerRows touching-rows ≡ 5
+unfolding two-touching accepted touching-rows
+five-rows = let f = worked.table .of-touching .no-others (touching-rows .enough) in λ i. 1 + f .2 i * (f .0 i - 2)
+
+-- the second edge of the two peaks has no row itself, while the one that is lent is in use
+two-peaks-lack : LacksItself (drawingOf (map pos twoPeaks)) 1 1
+unfolding one-row-for-two-peaks refused refusedWith
+two-peaks-lack = promised (lentFor one-row-for-two-peaks) (outcome (lentFor one-row-for-two-peaks)) refl .lacks-itself 1 (all-worked .of-one-row)
 
 -- engines that cannot keep the promise
 module _ (engine : Lent → Left Answer) (keeps : (l : Lent) → Promised l (engine l)) where

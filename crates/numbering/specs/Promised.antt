@@ -28,6 +28,10 @@ pub record RowsEnough (l : Lent) : Type 0 where
   pub rows : ℕ
   pub enough : Enough (drawingOf (l .list)) polygon rows
 
+-- with M-103 fewer are enough: one row, and for each of so many levels all edges that pass any one place but two
+abbrev pub fewerRows : {l : Lent} → RowsEnough l → ℕ
+fewerRows E = 1 + E .enough .log * (E .enough .C - 2)
+
 pub record Promised (l : Lent) (x : Left Answer) : Type 0 where
   -- the answer and every number of every slice
   pub outcome-is : x ≡ outcome l
@@ -38,8 +42,8 @@ pub record Promised (l : Lent) (x : Left Answer) : Type 0 where
   -- demand 3: for every list with an edge in which nothing else is at fault there are rows that are enough, and so many are always accepted
   pub enough-there : checked (callOf l) ≡ Passed → 0 < edgesIn (l .list) → RowsEnough l
   pub enough-rows : checked (callOf l) ≡ Passed → (E : RowsEnough l) → E .rows ≤ rowsIn (l .rows) → (polygons : ℕ) × (peak : ℕ) × (records : ℕ) × (x .answer ≡ Accepted polygons peak records)
-  -- .. and fewer are enough already: one, and for each of so many levels all edges that pass but two
-  pub fewer-enough : checked (callOf l) ≡ Passed → (E : RowsEnough l) → 1 + E .enough .log * (E .enough .C - 2) ≤ rowsIn (l .rows) → (polygons : ℕ) × (peak : ℕ) × (records : ℕ) × (x .answer ≡ Accepted polygons peak records)
+  -- .. and fewer already
+  pub fewer-enough : checked (callOf l) ≡ Passed → (E : RowsEnough l) → fewerRows E ≤ rowsIn (l .rows) → (polygons : ℕ) × (peak : ℕ) × (records : ℕ) × (x .answer ≡ Accepted polygons peak records)
   -- the peak is exact: with that many rows or more the same call gives the same answer, numbers and journal, with fewer it is refused
   pub peak-enough : (polygons peak records : ℕ) → x .answer ≡ Accepted polygons peak records → (rows : List ℤ) → peak ≤ rowsIn rows → outcome (withOtherRows l rows) ≡ leftAs (x .answer) (x .polygons) (x .sequences) (x .journal) (zeros rows)
   pub fewer-refused : (polygons peak records : ℕ) → x .answer ≡ Accepted polygons peak records → (rows : List ℤ) → rowsIn rows < peak → (e : ℕ) × (outcome (withOtherRows l rows) .answer ≡ Refused (NoRow e))

@@ -14,7 +14,7 @@ use Rattle.sheet.proofs.Drawn.{triangle, twoEdges, square, twoPeaks, touching, 
 use Rattle.steps.specs.declared.End.{End}
 use Rattle.steps.specs.declared.End.the-variants.{Done, NoFreeRow, Overrun}
 use Rattle.steps.specs.Rows as rows
-use Rattle.steps.specs.Rows.{Row, Record}
+use Rattle.steps.specs.Rows.{Row, Record, inRow}
 use Rattle.steps.specs.SweepUp as up
 use Rattle.steps.specs.SweepUp.{State, Sweep}
 use Rattle.steps.specs.SweepDown as down
@@ -91,7 +91,12 @@ sheets =
     ∷ accepted touchingFilms 3 6 2 3 11 (2 ∷ 1 ∷ 2 ∷ 2 ∷ 1 ∷ 1 ∷ 2 ∷ 3 ∷ 2 ∷ 0 ∷ 1 ∷ 2 ∷ 1 ∷ 0 ∷ [])
     ∷ []
 
-all-sheets-right : allRight sheets ≡ true
+-- all of them; and in the sheet of two peaks the fifth record puts row 1 into row 1, which was freed for it and opened again (M-103)
+record Computed : Type 0 where
+  all-right : allRight sheets ≡ true
+  opened-again : sweptTo (drawingOf (map pos twoPeaks)) 2 4 .state .journal 4 ≡ record { level = 1; name = 1; chain = inRow 1; offset = pos 1 }
+
+all-sheets : Computed
 unfolding
     allRight
     right
@@ -137,4 +142,4 @@ unfolding
     plain.plainTables
     swept.sweptTo
     swept.readDown
-all-sheets-right = refl
+all-sheets = record { all-right = refl; opened-again = refl }
