@@ -23,7 +23,7 @@ sideStep Falling = 8192
 
 -- any slot would do; this one spreads the places of a grid
 unfoldable pub slotOf : ℕ → Side → Place → ℕ
-slotOf level side p = (rank (p .point) % 16381 + level * 1021 + sideStep side) % slots
+slotOf level side p = (rank (p .point) % 16381 + level * 2039 + sideStep side) % slots
 
 -- the first row to look at
 unfoldable pub startAt : List ℕ → ℕ → ℕ

@@ -20,7 +20,7 @@ fn slot(level: u32, side: Side, tip: Place) -> usize
     ensures { λ i. ⌜ (i ≡ slotOf level side tip) × (i < slots) ⌝ }
 {
     let point = tip.point;
-    let key = point.rank() % 16_381 + (level as u64) * 1_021;
+    let key = point.rank() % 16_381 + (level as u64) * 2_039;
     match side {
         Side::Rising => (key % 16_384) as usize,
         Side::Falling => ((key + 8_192) % 16_384) as usize,
