@@ -145,11 +145,12 @@ typedef struct {
  * refusal 10, which leaves both all zeros. 11 to 14 never come from this call.
  *
  * How many rows to lend: let C be the most edges, of all films, that pass any
- * one point (its lower end is below the point, its higher end is not) and L the
- * number of edges of the longest outline. C times the whole part of log2 L rows
- * are always enough. Who does not know L may take the number of all edges. The
- * answer's peak is the exact number for this list: with so many it is accepted
- * again, with fewer it gets refusal 10. Lending more costs their clearing only.
+ * one point (its lower end is below the point, its higher end is not) and F the
+ * whole part of log2 of the number of edges of the longest outline. 1 + F(C - 2)
+ * rows are always enough, and so are C times F, which is more. Who does not know
+ * the longest outline may take the number of all edges for it. The answer's peak
+ * is the exact number for this list: with so many it is accepted again, with
+ * fewer it gets refusal 10. Lending more costs their clearing only.
  */
 outline_sheet outline_assemble(const int32_t *edges, size_t edges_length,
                                uint32_t *polygons, size_t polygons_length,

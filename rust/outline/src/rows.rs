@@ -12,11 +12,12 @@ type Point = (i32, i32);
 /// point when its lower end is below that point and its higher end is not. F is
 /// the whole part of log2 L, L the number of edges of the longest outline. C
 /// times F rows are always enough, and so are 1 + F(C - 2), which are fewer: the
-/// engine's contract says both, and it is proved (the clause `enough-rows` in
-/// crates/numbering/specs/Promised.antt). Before the list is numbered L is not
-/// known, but no outline has more edges than the list, and a greater L only makes
-/// the number greater. So it is never too small. It may be larger than needed:
-/// [`Answer::Accepted`] gives the peak, with which the same list is accepted too.
+/// engine's contract says both, and it is proved (the clauses `enough-rows` and
+/// `fewer-enough` in crates/numbering/specs/Promised.antt). Before the list is
+/// numbered L is not known, but no outline has more edges than the list, and a
+/// greater L only makes the number greater. So it is never too small. It may be
+/// larger than needed: [`Answer::Accepted`] gives the peak, with which the same
+/// list is accepted too.
 ///
 /// For a list that the engine refuses, whatever its fault, any number would do.
 /// The cost is that of sorting the edges' ends.

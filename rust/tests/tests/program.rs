@@ -218,7 +218,7 @@ fn input_in_pieces() {
     assert_eq!(printed(&pieces), "refused 2 0\n");
 }
 
-/// The program lends 256 rows, which are enough for 512 lines: no sheet needs
+/// The program lends 256 rows for 512 lines, and no sheet was found that needs
 /// more than half as many rows as it has edges. These need as many as that: many
 /// outlines of a few lowest points each, or one of many, all open at once.
 #[test]

@@ -426,8 +426,8 @@ fn refusals_that_the_program_does_not_give() {
     }
 }
 
-/// The same of 10, which names an edge: the rows that the program lends are enough
-/// for every sheet that it takes.
+/// The same of 10, which names an edge: no sheet was found for which the rows that
+/// the program lends are too few.
 #[test]
 fn a_row_that_the_program_does_not_lack() {
     let house = House::built("rows", "echo refused 10 1");

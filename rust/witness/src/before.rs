@@ -50,7 +50,7 @@ fn without_rows(outcome: &Outcome) -> Outcome {
 }
 
 /// Holds what the program prints to what it printed before. The rows that it
-/// lends are always enough now.
+/// lends are enough now for all these texts.
 ///
 /// # Panics
 /// When it is not what the other still says.

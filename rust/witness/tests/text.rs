@@ -169,8 +169,8 @@ fn waiting(outlines: i32) -> String {
     all.clone().map(lower).chain(all.map(upper)).collect()
 }
 
-/// The program lends 256 rows, and no sheet needs more than half as many rows as
-/// it has edges.
+/// The program lends 256 rows for 512 lines, and no sheet was found that needs
+/// more than half as many rows as it has edges.
 #[test]
 fn the_most_lines_with_the_most_rows() {
     let printed = String::from_utf8(outline(waiting(128).as_bytes())).unwrap();

@@ -39,7 +39,7 @@ use Rattle.hartley.proofs.invariant.LeftAlone.{Whole, WholeBy, Kept, Pa
 use Rattle.hartley.proofs.bounds.LengthsAndLevels.{size-small, level-small, records-small}
 use Rattle.hartley.proofs.bounds.RowsOfALevel.{passes}
 use Rattle.hartley.proofs.bounds.RowsByLevel.{rows-in-use-le}
-use Rattle.hartley.proofs.step.RowOfStepOne.{Pre, top-other}
+use Rattle.hartley.proofs.step.RowOfStepOne.{Pre, top-other, ends-apart, room-above}
 use Rattle.hartley.proofs.step.OutlineClosed as closing
 use Rattle.hartley.proofs.step.OutlineClosed.{closing, closing-tied, closing-kept}
 use Rattle.hartley.proofs.step.RowPassedUp.{pre-row}
@@ -313,17 +313,7 @@ module _ (A : Setting) {p h : ℕ} (E : Time (plan A) p h) where
       crowded b most = by x refl
         where
           levels-there : 1 ≤ b
-          levels-there = omega (arith, flat, most _ (rw (P .level-is) at (invariant.room N E (I .state .frame) (I .state .seams) x (P .live) (P .both-finished) (λ q. omega (arith, goes, ends q)))))
-            where
-              ends : tip sh Falling (G .end Falling x) ≡ tip sh Rising (G .end Rising x) → height sh (bottom side e) ≡ height sh (top side e)
-              ends q = ap (height sh) (by-side side)
-                where
-                  same : e .tail ≡ e .head
-                  same = sym (P .end-is Falling) ∙ q ∙ P .end-is Rising
-
-                  by-side : (t : Side) → bottom t e ≡ top t e
-                  by-side Rising = same
-                  by-side Falling = sym same
+          levels-there = omega (arith, flat, most _ (room-above N E (I .state) P (ends-apart sh side e goes)))
 
           by : (y : Owner) → x ≡ y → (1 ≤ b) × (2 ≤ count (passes sh p) (sh .list .edges)) × (A .rows ≤ b * (count (passes sh p) (sh .list .edges) - 2))
           by (row d) q = absurd (omega (arith, flat, P .level-is, ap (marksOf Y .own-level) q))
@@ -421,7 +411,7 @@ module _ (A : Setting) {p h : ℕ} (E : Time (plan A) p h) where
 
   -- an edge that does not close has a level to go to
   level-left : (s : Work) (level : ℕ) (e : LevelEdge ℕ) (Y : Table) (B : Naming) (G : Paths) (x : Owner) → Inv A E s Y B G x → Pre sh p h Y B G level e x → (e .tail ≡ e .head → ⊥) → suc level ≤ 12
-  level-left s level e Y B G x I P d = level-small N (A .few) (suc level) (rw (P .level-is) at (invariant.room N E (I .state .frame) (I .state .seams) x (P .live) (P .both-finished) (λ q. d (sym (P .end-is Falling) ∙ q ∙ P .end-is Rising))))
+  level-left s level e Y B G x I P d = level-small N (A .few) (suc level) (room-above N E (I .state) P d)
 
   goes-on : (level : ℕ) (e : LevelEdge ℕ) (Y : Table) (B : Naming) (G : Paths) (x : Owner) → Pre sh p h Y B G level e x → (e .tail ≡ e .head → ⊥) → (t : Bool) → ltb (A .sheet .height (e .tail)) (A .sheet .height (e .head)) ≡ t
       → height sh (bottom (cond t Rising Falling) e) < height sh (top (cond t Rising Falling) e)

@@ -42,6 +42,15 @@ pub record Pre (sh : Plan) (p m : ℕ) (Y : Table) (B : Naming) (G : Paths) (lev
   pub named : nameOf B x ≡ nameAt level (e .name)
   pub parts : (s : Side) → height sh (bottom s e) < height sh (top s e) → e .apart ≡ sh .list .apart (top s e)
 
+-- an edge that goes up has two ends
+pub ends-apart : (sh : Plan) (s : Side) (e : LevelEdge ℕ) → height sh (bottom s e) < height sh (top s e) → e .tail ≡ e .head → ⊥
+ends-apart sh Rising e l q = omega (arith, l, ap (height sh) q)
+ends-apart sh Falling e l q = omega (arith, l, ap (height sh) q)
+
+-- and its outline has room for one level more
+pub room-above : {sh : Plan} (N : Lawful sh) {p m : ℕ} (E : Time sh p m) {Y : Table} {J : List Rec} {B : Naming} {G : Paths} → State sh p m Y J B G → {level : ℕ} {e : LevelEdge ℕ} {x : Owner} → Pre sh p m Y B G level e x → (e .tail ≡ e .head → ⊥) → Room sh (suc level)
+room-above N E I {x = x} P d = rw (P .level-is) at (room N E (I .frame) (I .seams) x (P .live) (P .both-finished) (λ q. d (sym (P .end-is Falling) ∙ q ∙ P .end-is Rising)))
+
 -- a row in use of the level, its branch unfinished with its tip at t
 pub record HasTip (v : Row ℕ) (s : Side) (level t : ℕ) : Type 0 where
   pub used : v .used ≡ true
@@ -143,16 +152,6 @@ module _ {sh : Plan} {p m : ℕ} {Y : Table} {J : List Rec} {B : Naming} {G : Pa
         same-name (edge a) h = refl
         same-name (row b) h = ap Rattle.hartley.proofs.paths.DownLaw.ofRow (live-name I r new b h)
 
-    ends-differ : tip sh Falling (G .end Falling x) ≡ tip sh Rising (G .end Rising x) → height sh (bottom s e) ≡ height sh (top s e)
-    ends-differ q = ap (height sh) (sides s)
-      where
-        ends : e .tail ≡ e .head
-        ends = sym (P .end-is Falling) ∙ q ∙ P .end-is Rising
-
-        sides : (s : Side) → bottom s e ≡ top s e
-        sides Rising = ends
-        sides Falling = sym ends
-
     nobody : (w : Owner) → 0 < size G w → marksOf W .finished s w ≡ false → marksOf W .own-level w ≡ suc (marksOf W .own-level x) → tip sh s (G .end s w) ≡ tip sh (otherSide s) (G .end (otherSide s) x) → ⊥
     unfolding marksOf
     nobody (edge a) l f q t = not-both (A .edge-ends a s) f
@@ -171,7 +170,7 @@ module _ {sh : Plan} {p m : ℕ} {Y : Table} {J : List Rec} {B : Naming} {G : Pa
       length = λ t. ap (λ (u : Row ℕ). on t (u .branch) .length) at-new ∙ new-length t ∙ sym (no-length t);
       old = λ h. absurd (omega (arith, h, dead));
       fresh = λ h. ap (λ (u : Row ℕ). on (otherSide s) (u .branch) .tip) at-new ∙ new-tip (otherSide s) ∙ sym start-is;
-      room = rw (P .level-is) at (room N E (I .frame) (I .seams) x (P .live) (P .both-finished) (λ q. omega (arith, goes, ends-differ q)));
+      room = room-above N E I P (ends-apart sh s e goes);
       place = inl (dead, ap (λ (u : Row ℕ). on (otherSide s) (u .branch) .finished) at-new ∙ new-unfinished (otherSide s), nobody);
       alone = λ b l d q. absurd (not-both (ap (λ i. T i .used) (sym (sym (live-name I r new b l) ∙ q ∙ new-name)) ∙ K .of-live b l d .0) free);
     }
