@@ -49,6 +49,6 @@ pub record Promised (l : Lent) (x : Left Answer) : Type 0 where
   pub fewer-refused : (polygons peak records : ℕ) → x .answer ≡ Accepted polygons peak records → (rows : List ℤ) → rowsIn rows < peak → (e : ℕ) × (outcome (withOtherRows l rows) .answer ≡ Refused (NoRow e))
   -- refusal 10 at an edge, exactly when step 1 finds no free row while that edge is treated
   pub lacks-row : (e : ℕ) → x .answer ≡ Refused (NoRow e) → (checked (callOf l) ≡ Passed) × LacksRow (drawingOf (l .list)) (rowsIn (l .rows)) e
+  pub no-row : (e : ℕ) → checked (callOf l) ≡ Passed → LacksRow (drawingOf (l .list)) (rowsIn (l .rows)) e → x .answer ≡ Refused (NoRow e)
   -- .. and then it is an edge of the list itself that lacks the row
   pub lacks-itself : (e : ℕ) → x .answer ≡ Refused (NoRow e) → LacksItself (drawingOf (l .list)) (rowsIn (l .rows)) e
-  pub no-row : (e : ℕ) → checked (callOf l) ≡ Passed → LacksRow (drawingOf (l .list)) (rowsIn (l .rows)) e → x .answer ≡ Refused (NoRow e)

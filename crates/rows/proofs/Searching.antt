@@ -1,27 +1,27 @@
 -- The two searches stop at the peak or at the last row of the slice, whichever comes first. Past the slice every row looks free, so no tip is found
 -- there, and the first row past it is the lowest free one where all before it are in use.
 use mathlib.Core.Path.{_≡_, refl, ap}
-use mathlib.Core.Bool.{Bool, true, false, not, _&&_, cond}
+use mathlib.Core.Bool.{Bool, true, false, not, _&&_}
 use mathlib.Core.Logic.{⊎-elim}
 use mathlib.Core.List.{List}
 use Prim.Native.Nat.{ℕ, _+_, _*_, _/_, _≤_, _<_, min}
 use native.Mathlib.Omega.{arith}
-use lib.Dec.{ltb, eqb}
+use lib.Dec.{eqb}
 use lib.IntN.{ℤ, pos, negsuc}
 use lib.ListN.{length, getD}
 use lib.Signed.{leZ, ltZ, mag}
 use mir.Syntax.{w32}
 use mir.Val.{toZ, ofZ}
-use borrow.Author.Tests.{lt-ltb, le-ltb, le-leb, lt-leb, ltb-true, leb-true, leb-false, eqb-true}
-use Rattle.laws.specs.Counting.{first}
+use borrow.Author.Tests.{lt-ltb, le-ltb, le-leb, lt-leb, leb-true, leb-false, eqb-true}
 use Rattle.laws.proofs.Bits.{read-back}
 use Rattle.laws.proofs.Deciding.{lt-or-le, not-both, both-true}
-use Rattle.laws.proofs.First.{first-is, first-holds}
+use Rattle.laws.proofs.First.{first-is}
 use Rattle.laws.proofs.Tests.{not-not}
 use Rattle.steps.specs.declared.Side.{Side}
 use Rattle.steps.specs.declared.Found.the-variants.{At, Nothing}
 use Rattle.steps.specs.Rows.{on, lowestFree}
 use Rattle.steps.specs.SweepUp.{foundBelow, hasTip}
+use Rattle.steps.proofs.Finding.{found-at}
 use Rattle.steps.proofs.Alone.{Alone}
 use Rattle.rows.specs.declared.Place.{Place}
 use Rattle.rows.specs.Layout.{filmPlaces, HasRow, lookRow, hasTipIn, rowSlice}
@@ -39,18 +39,6 @@ module _ (p : ℕ → Bool) (n m : ℕ) (l : m ≤ n) where
     where
       least : (k : ℕ) → k < n → p k ≡ false
       least k h = ⊎-elim (λ a. below k a) (λ a. past k a h) (lt-or-le k m)
-
--- what is found is below n and passes
-found-is : (p : ℕ → Bool) (n r : ℕ) → foundBelow p n ≡ At r → (r < n) × (p r ≡ true)
-unfolding foundBelow
-found-is p n r e = by (ltb (first p n) n) refl e
-  where
-    by : (t : Bool) → ltb (first p n) n ≡ t → cond t (At (first p n)) Nothing ≡ At r → (r < n) × (p r ≡ true)
-    by true h q =
-        let l : first p n < n = ltb-true _ _ h in
-        let i : first p n ≡ r = cc in
-        (rw i at l, rw i at (first-holds p n l))
-    by false h q = let z : _≡_ {A = ℕ} 0 1 = cc in absurd (omega arith)
 
 module _ (s : List ℤ) where
   pub past-free : (r : ℕ) → length s < numbersPerRow * r + 8 → lookRow s r .used ≡ false
@@ -79,11 +67,11 @@ module _ (s : List ℤ) where
 
     -- a row that is found is there
     pub found-there : (peak r : ℕ) → foundBelow (hasTipIn s level side tip) peak ≡ At r → HasRow s r
-    found-there peak r e = has-row r (tip-in-use r (found-is (hasTipIn s level side tip) peak r e .1))
+    found-there peak r e = has-row r (tip-in-use r (found-at (hasTipIn s level side tip) peak r e .1))
 
     -- and of the level
     pub found-level : (peak r : ℕ) → foundBelow (hasTipIn s level side tip) peak ≡ At r → lookRow s r .level ≡ level
-    found-level peak r e = tip-parts r (found-is (hasTipIn s level side tip) peak r e .1) .0
+    found-level peak r e = tip-parts r (found-at (hasTipIn s level side tip) peak r e .1) .0
 
     pub past-no-tip : (r : ℕ) → length s < numbersPerRow * r + 8 → hasTipIn s level side tip r ≡ false
     unfolding hasTipIn

@@ -4,16 +4,14 @@
 -- first has a film, edges and rows keep to one, and so a row may say its film once.
 use mathlib.Core.Path.{_≡_, refl, sym, ap, _∙_, subst}
 use mathlib.Core.Bool.{Bool, true, false, not, _&&_, cond}
-use mathlib.Core.Logic.{⊎-elim}
 use Prim.Native.Nat.{ℕ, zero, suc, _+_, max, _≤_, _<_}
 use native.Mathlib.Omega.{arith}
 use lib.Dec.{eqb, ltb, leb}
 use lib.IntN.{ℤ, pos}
-use borrow.Author.Tests.{ltb-true, lt-ltb, le-ltb}
-use Rattle.laws.proofs.Deciding.{lt-or-le, not-both, both-true}
+use borrow.Author.Tests.{ltb-true}
+use Rattle.laws.proofs.Deciding.{not-both, both-true}
 use Rattle.laws.specs.Counting.{count, first}
-use Rattle.laws.proofs.First.{first-least, first-none, first-holds}
-use Rattle.laws.proofs.Further.{first-further, first-no-further, count-further}
+use Rattle.laws.proofs.Further.{first-further, count-further}
 use Rattle.steps.specs.declared.Side.{Side}
 use Rattle.steps.specs.declared.Side.the-variants.{Rising, Falling}
 use Rattle.steps.specs.declared.Found.{Found}
@@ -23,6 +21,7 @@ use Rattle.steps.specs.declared.End.the-variants.{Done, NoFreeRow, Overr
 use Rattle.steps.specs.Rows.{otherSide, on, Branch, Row, Chain, inRow, closing, Record, LevelEdge, Room, lowestFree}
 use Rattle.steps.specs.SweepUp as up
 use Rattle.steps.specs.SweepUp.{State, Sweep, hasTip, asEdge, bottom, top, sideOf, longer, chainRecord, foundBelow, mostLength, levels}
+use Rattle.steps.proofs.Finding.{found-at, found-same}
 use Rattle.steps.proofs.Alone.{Alone, opened-name, chosen-up-to}
 
 -- going on after two treatments that ended alike
@@ -33,21 +32,6 @@ after-both {A} {A′} R {u} e {x} {y} {x′} {y′} h f = subst (λ v. R (up.aft
     by Done g = g refl
     by NoFreeRow g = h
     by Overrun g = h
-
--- what is found does not change by looking further, where nothing there passes
-found-same : (p q : ℕ → Bool) (n m : ℕ) → ((r : ℕ) → r < n → p r ≡ q r) → ((r : ℕ) → n ≤ r → r < m → q r ≡ false) → foundBelow p n ≡ foundBelow q (max n m)
-unfolding foundBelow
-found-same p q n m same none = ⊎-elim some nothing (lt-or-le (first p n) n)
-  where
-    some : first p n < n → cond (ltb (first p n) n) (At (first p n)) Nothing ≡ cond (ltb (first q (max n m)) (max n m)) (At (first q (max n m))) Nothing
-    some l =
-        let e = first-no-further p q n m same l in
-        rw (lt-ltb (first p n) n l, lt-ltb (first q (max n m)) (max n m) (omega (arith, l, e)), e)
-
-    nothing : n ≤ first p n → cond (ltb (first p n) n) (At (first p n)) Nothing ≡ cond (ltb (first q (max n m)) (max n m)) (At (first q (max n m))) Nothing
-    nothing l =
-        let e = first-none q (max n m) (λ r h. ⊎-elim (λ a. sym (same r a) ∙ first-least p n r (omega (arith, a, l))) (λ a. none r a (omega arith)) (lt-or-le r n)) in
-        rw (le-ltb (first p n) n l, le-ltb (first q (max n m)) (max n m) (omega (arith, e)))
 
 module _ {P P′ : Type 0} (R : P → P′ → Type 0) where
   pub record AlikeBranch (b : Branch P) (b′ : Branch P′) : Type 0 where
@@ -336,18 +320,6 @@ module _ {P T J P′ T′ J′ : Type 0} {room : Room P T J} {room′ : Room P�
   after-alike : {k : ℕ} {x : State T J} {x′ : State T′ J′} → Alike 0 k x x′ → {y : State T J} {y′ : State T′ J′} → (x .end ≡ Done → Alike 0 k y y′) → Alike 0 k (up.afterDone (x .end) x y) (up.afterDone (x′ .end) x′ y′)
   after-alike {k} A f = after-both (Alike 0 k) (A .end) A f
 
-  -- a row found is within the reach, and passes
-  found-below : (test : ℕ → Bool) (n q : ℕ) → foundBelow test n ≡ At q → (q < n) × (test q ≡ true)
-  unfolding foundBelow
-  found-below test n q h = by (ltb (first test n) n) refl h
-    where
-      by : (t : Bool) → ltb (first test n) n ≡ t → cond t (At (first test n)) Nothing ≡ At q → (q < n) × (test q ≡ true)
-      by true e u =
-          let v : first test n ≡ q = cc in
-          let l = ltb-true (first test n) n e in
-          (omega (arith, v, l), rw v at (first-holds test n l))
-      by false e u = let z : _≡_ {A = ℕ} 0 1 = cc in absurd (omega arith)
-
   -- the row's tip is at the place that was looked for
   tip-there : (level : ℕ) (side : Side) (p : P) (row : Row P) → hasTip (room .places) level side p row ≡ true → room .places .same (on side (row .branch) .tip) p ≡ true
   unfolding hasTip
@@ -358,7 +330,7 @@ module _ {P T J P′ T′ J′ : Type 0} {room : Room P T J} {room′ : Room P�
   found-tip : (s : State T J) (level : ℕ) (side : Side) (p : P) (q : ℕ) → up.find room s level side p ≡ At q → (q < s .reach) × (film (on side (up.look room s q .branch) .tip) ≡ film p)
   unfolding up.find
   found-tip s level side p q h =
-      let w = found-below _ (s .reach) q h in
+      let w = found-at _ (s .reach) q h in
       (w .0, M .same-film (tip-there level side p (up.look room s q) (both-true (room .table .mine (s .rows) q) _ (w .1) .1)))
 
   found-small : {k : ℕ} {s : State T J} {s′ : State T′ J′} → Alike 0 k s s′ → s .end ≡ Done → (level : ℕ) (side : Side) (e : LevelEdge P) (q : ℕ) → up.meeting room s level side e ≡ At q → (q < s .reach) × (q ≤ most)
@@ -367,7 +339,7 @@ module _ {P T J P′ T′ J′ : Type 0} {room : Room P T J} {room′ : Room P�
     where
       by : (t : Bool) → up.pickMeeting t (foundBelow (λ r. room .table .mine (s .rows) r && hasTip (room .places) level (otherSide side) (top side e) (up.look room s r)) (s .reach)) ≡ At q → (q < s .reach) × (q ≤ most)
       by true u = let z : _≡_ {A = ℕ} 0 1 = cc in absurd (omega arith)
-      by false u = let l = found-below _ (s .reach) q u .0 in (l, omega (arith, l, A .little done, A .kept, M .names))
+      by false u = let l = found-at _ (s .reach) q u .0 in (l, omega (arith, l, A .little done, A .kept, M .names))
 
   edge-alike : (r : ℕ) {row : Row P} {row′ : Row P′} → r ≤ most → AlikeRow R row row′ → film (row .branch .falling .tip) ≡ film (row .branch .rising .tip) → AlikeEdge R film most (asEdge r row) (asEdge r row′)
   unfolding asEdge

@@ -20,6 +20,7 @@ use Rattle.steps.specs.SweepUp.{State, hasTip, signed, mostLength}
 use Rattle.steps.specs.Plain as plain
 use Rattle.steps.specs.Plain.{plainTable, plainJournal, newRow, freeRow}
 use Rattle.steps.specs.Swept.{placesOf, plainRoom}
+use Rattle.steps.proofs.Finding.{found-at, found-none}
 use Rattle.steps.proofs.Alone.{plain-alone, can-open}
 use Rattle.laws.proofs.Lowest.{lowest-is}
 use Rattle.hartley.proofs.paths.DownLaw.{Rec, put, close, ofRow, nameAt}
@@ -27,7 +28,7 @@ use Rattle.hartley.proofs.paths.JournalRead.{recs, recs-written}
 use Rattle.hartley.proofs.invariant.TableTied.{Table}
 use Rattle.hartley.proofs.step.RowOfStepOne.{HasTip}
 use Rattle.hartley.proofs.invariant.Branches.{lengthened, matched}
-use Rattle.hartley.proofs.step.TableSeen.{view, view-in, view-above, view-opened, view-lengthened, view-matched, view-freed, found-at, found-none, tip-of, tip-to}
+use Rattle.hartley.proofs.step.TableSeen.{view, view-in, view-above, view-opened, view-lengthened, view-matched, view-freed, tip-of, tip-to}
 
 -- a state at plain tables, and what the theory sees of it
 abbrev pub Work : Type 0

@@ -1,20 +1,17 @@
 -- The plain table of a state as the theory sees it: rows that were never within the reach are not in use, whatever the table holds there. What the steps do to a
 -- row within it they do to what is seen; what a search finds is a tip there.
-use mathlib.Core.Path.{_≡_, refl, ap, sym, _∙_, fun-ext}
-use mathlib.Core.Bool.{Bool, true, false, not, _&&_, cond}
+use mathlib.Core.Path.{_≡_, ap, sym, _∙_, fun-ext}
+use mathlib.Core.Bool.{Bool, true, false, not, _&&_}
 use mathlib.Core.Logic.{_⊎_, ⊎-elim}
 use Prim.Native.Nat.{ℕ, _≤_, _<_}
 use native.Mathlib.Omega.{arith}
 use lib.Dec.{eqb, ltb}
-use borrow.Author.Tests.{not-true, eq-eqb, eqb-true, lt-ltb, le-ltb, ltb-true, ltb-false}
-use Rattle.laws.specs.Counting.{first}
+use borrow.Author.Tests.{not-true, eq-eqb, eqb-true, lt-ltb, le-ltb, ltb-true}
 use Rattle.laws.proofs.Deciding.{lt-or-le, eq-or-ne, both-true}
-use Rattle.laws.proofs.First.{first-holds, first-least}
 use Rattle.sheet.specs.Edges.{Drawing}
 use Rattle.steps.specs.declared.Side.{Side}
-use Rattle.steps.specs.declared.Found.the-variants.{At, Nothing}
 use Rattle.steps.specs.Rows.{otherSide, on, Row, LevelEdge}
-use Rattle.steps.specs.SweepUp.{foundBelow, hasTip}
+use Rattle.steps.specs.SweepUp.{hasTip}
 use Rattle.steps.specs.Plain.{put, withBranch, freeRow}
 use Rattle.steps.specs.Swept.{placesOf}
 use Rattle.hartley.proofs.paths.TableWritten.{put-at, put-off}
@@ -75,23 +72,6 @@ pub view-matched : (t : ℕ → Row ℕ) (peak : ℕ) (s : Side) (r q : ℕ) →
 view-matched t peak s r q l k = view-finishing (finishing (otherSide s) t q) peak s r l ∙ ap (λ T. finishing s T r) (view-finishing t peak (otherSide s) q k)
 
 -- what a search finds
-module _ (test : ℕ → Bool) (n : ℕ) where
-  pub found-at : (r : ℕ) → foundBelow test n ≡ At r → (r < n) × (test r ≡ true)
-  unfolding foundBelow
-  found-at r e = by (ltb (first test n) n) refl e
-    where
-      by : (b : Bool) → ltb (first test n) n ≡ b → cond b (At (first test n)) Nothing ≡ At r → (r < n) × (test r ≡ true)
-      by false f h = let z : _≡_ {A = ℕ} 0 1 = cc in absurd (omega arith)
-      by true f h = let q : first test n ≡ r = cc in let l = ltb-true (first test n) n f in (omega arith, ap test (sym q) ∙ first-holds test n l)
-
-  pub found-none : foundBelow test n ≡ Nothing → (r : ℕ) → r < n → test r ≡ false
-  unfolding foundBelow
-  found-none e r l = by (ltb (first test n) n) refl e
-    where
-      by : (b : Bool) → ltb (first test n) n ≡ b → cond b (At (first test n)) Nothing ≡ Nothing → test r ≡ false
-      by true f h = let z : _≡_ {A = ℕ} 0 1 = cc in absurd (omega arith)
-      by false f h = first-least test n r (omega (arith, ltb-false (first test n) n f))
-
 module _ (sh : Drawing) (t : ℕ → Row ℕ) (peak level p : ℕ) (s : Side) (r : ℕ) where
   pub tip-of : r < peak → (t r .used && hasTip (placesOf sh) level s p (t r)) ≡ true → HasTip (view t peak r) s level p
   unfolding hasTip view
