@@ -85,7 +85,7 @@ module _ (A : Setting) {p h : ℕ} (E : Time (plan A) p h) where
     full : level ≡ 0 → s′ .end ≡ NoFreeRow → FindsNone s e → Crowded → Outcome level s e s′ l Q
 
   -- one edge in hand
-  module _ (s : Work) (Y : Table) (B : Naming) (G : Paths) (level : ℕ) (e : LevelEdge ℕ) (x : Owner) (I : Inv s Y B G x) (P : Pre sh p h Y B G level e x) (K : WholeBy level Y G)
+  module _ {s : Work} {Y : Table} {B : Naming} {G : Paths} {level : ℕ} {e : LevelEdge ℕ} {x : Owner} (I : Inv s Y B G x) (P : Pre sh p h Y B G level e x) (K : WholeBy level Y G)
       (counted : edgeBit (nameAt level (e .name)) + listed (journalOf s) ≤ A .sheet .edges) (side : Side) (goes : height sh (bottom side e) < height sh (top side e)) where
     -- the row of step 1, r by name and c by birth, in the state s₁
     pub record Slotted (s₁ : Work) (r c : ℕ) (Y₁ : Table) (B₁ : Naming) : Type 0 where
@@ -189,7 +189,7 @@ module _ (A : Setting) {p h : ℕ} (E : Time (plan A) p h) where
         reach-fits = mathlib.Core.Logic.⊎-elim (λ k. (omega (arith, k .1, I .reach-rows), omega (arith, k .1, J .1, I .reach-records))) (λ k. (omega (arith, k .0, k .1, l), omega (arith, k .1, J .1, I .reach-records))) (O .reach)
 
     -- the edge put into the row of step 1
-    module _ (s₂ : Work) (r c : ℕ) (Y₁ : Table) (B₁ : Naming) (L : Slotted s₂ r c Y₁ B₁) where
+    module _ {s₂ : Work} {r c : ℕ} {Y₁ : Table} {B₁ : Naming} (L : Slotted s₂ r c Y₁ B₁) where
       pub slot-journal : journalOf s₂ ≡ journalOf s
       slot-journal = rw (L .journal-same, L .records-same)
 
@@ -235,7 +235,7 @@ module _ (A : Setting) {p h : ℕ} (E : Time (plan A) p h) where
 
       pub data Met : Found → Type 0 where
         none : State sh p h Y₂ (journalOf a) B₁ H → Met Nothing
-        some : (q d : ℕ) → MetRow q d → Met (At q)
+        some : {q d : ℕ} → MetRow q d → Met (At q)
 
       met-none : ((q : ℕ) → sh .list .apart (top side e) ≡ false → HasTip (tableOf a q) (otherSide side) level (top side e) → ⊥) → Met Nothing
       met-none clear = none (rw a-journal (unmet N E (L .state₁) (L .pre₁) side goes c (L .slot) (λ b l o t.
@@ -245,7 +245,7 @@ module _ (A : Setting) {p h : ℕ} (E : Time (plan A) p h) where
       met-some : (q : ℕ) → (q < a .reach) × HasTip (tableOf a q) (otherSide side) level (top side e) → sh .list .apart (top side e) ≡ false → Met (At q)
       met-some q f o =
           let w = a-tied .to-live q (f .1 .used) in
-          some q (w .0) (record { within = f .0; alive = w .1; name-met = w .3; tip-met = rw (row-is names₂ a-tied q (f .1 .used)) at (f .1); together = o })
+          some (record { within = f .0; alive = w .1; name-met = w .3; tip-met = rw (row-is names₂ a-tied q (f .1 .used)) at (f .1); together = o })
 
       pub meets : (f : Found) → up.meeting room a level side e ≡ f → Met f
       unfolding up.meeting up.pickMeeting
@@ -258,7 +258,7 @@ module _ (A : Setting) {p h : ℕ} (E : Time (plan A) p h) where
           by false o (At i) q = met-some i (find-at (A .sheet) (A .rows) (A .records) a level (otherSide side) (top side e) i q) o
 
       -- the two ends of a match finished
-      module _ (q d : ℕ) (M : MetRow q d) where
+      module _ {q d : ℕ} (M : MetRow q d) where
         abbrev pub b : Work
         b = joined (A .sheet) (A .rows) (A .records) a side q r
 
@@ -299,4 +299,4 @@ module _ (A : Setting) {p h : ℕ} (E : Time (plan A) p h) where
 
       pub guards : {f : Found} → Met f → up.attach room s₂ level side e r ≡ a
       guards (none I₂) = guarded (journal-room I₂)
-      guards (some q d M) = guarded (journal-room (rw (b-journal q d M) at (b-state q d M)))
+      guards (some M) = guarded (journal-room (rw (b-journal M) at (b-state M)))

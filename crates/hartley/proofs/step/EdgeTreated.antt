@@ -75,7 +75,7 @@ module _ (A : Setting) {p h : ℕ} (E : Time (plan A) p h) where
 
   -- a row freed and passed up, if it is whole
   module _ (level : ℕ) (next : Work → LevelEdge ℕ → Work) (ih : Treats (suc level) next) where
-    module _ (s : Work) (q c : ℕ) (Y : Table) (B : Naming) (X : Paths) (I : Inv A E s Y B X (edge 0)) (l : 0 < size X (row c)) (nm : B .name c ≡ q) (of-level : Y c .level ≡ level) (K : WholeBy (suc level) Y X) (few : listed (journalOf s) ≤ A .sheet .edges) where
+    module _ {s : Work} {q c : ℕ} {Y : Table} {B : Naming} {X : Paths} (I : Inv A E s Y B X (edge 0)) (l : 0 < size X (row c)) (nm : B .name c ≡ q) (of-level : Y c .level ≡ level) (K : WholeBy (suc level) Y X) (few : listed (journalOf s) ≤ A .sheet .edges) where
       abbrev After : Work → Type 0
       After s′ = Went A E s′ (listed (journalOf s)) (λ Y′ B′ G′. Passed (suc level) c Y Y′ B B′ X G′)
 
@@ -144,7 +144,7 @@ module _ (A : Setting) {p h : ℕ} (E : Time (plan A) p h) where
   falling-short I y = omega (arith, size-small (I .frame .chain) y)
 
   -- an edge in hand that goes up on a side
-  module _ (level : ℕ) (next : Work → LevelEdge ℕ → Work) (ih : Treats (suc level) next) (s : Work) (Y : Table) (B : Naming) (G : Paths) (e : LevelEdge ℕ) (x : Owner) (I : Inv A E s Y B G x) (P : Pre sh p h Y B G level e x) (K : WholeBy level Y G)
+  module _ (level : ℕ) (next : Work → LevelEdge ℕ → Work) (ih : Treats (suc level) next) {s : Work} {Y : Table} {B : Naming} {G : Paths} {e : LevelEdge ℕ} {x : Owner} (I : Inv A E s Y B G x) (P : Pre sh p h Y B G level e x) (K : WholeBy level Y G)
       (counted : edgeBit (nameAt level (e .name)) + listed (journalOf s) ≤ A .sheet .edges) (side : Side) (goes : height sh (bottom side e) < height sh (top side e)) where
     abbrev k : ℕ
     k = edgeBit (nameAt level (e .name)) + listed (journalOf s)
@@ -153,25 +153,25 @@ module _ (A : Setting) {p h : ℕ} (E : Time (plan A) p h) where
     Ended s′ = Went A E s′ k (λ Y′ B′ G′. Kept level x (B .born) Y Y′ B B′ G G′)
 
     -- steps 2 to 4 on the row of step 1
-    module _ (s₂ : Work) (r c : ℕ) (Y₁ : Table) (B₁ : Naming) (L : Slotted A E s Y B G level e x I P K counted side goes s₂ r c Y₁ B₁) where
+    module _ {s₂ : Work} {r c : ℕ} {Y₁ : Table} {B₁ : Naming} (L : Slotted A E I P K counted side goes s₂ r c Y₁ B₁) where
       abbrev a₁ : Work
       a₁ = attached (A .sheet) (A .rows) (A .records) s₂ level side e r
 
       abbrev X : Paths
-      X = H A E s Y B G level e x I P K counted side goes s₂ r c Y₁ B₁ L
+      X = H A E I P K counted side goes L
 
       rest : (a₁ .reach ≡ s₂ .reach) × (a₁ .records ≡ s₂ .records + 1) × (a₁ .end ≡ s₂ .end)
-      rest = a-rest A E s Y B G level e x I P K counted side goes s₂ r c Y₁ B₁ L
+      rest = a-rest A E I P K counted side goes L
 
       listed₁ : listed (journalOf a₁) ≡ k
-      listed₁ = a-listed A E s Y B G level e x I P K counted side goes s₂ r c Y₁ B₁ L
+      listed₁ = a-listed A E I P K counted side goes L
 
       held-attached : (k : ℕ) → k < a₁ .records → Held A (a₁ .journal k) (recs (a₁ .journal) k)
       held-attached = subst (λ j. (k : ℕ) → k < a₁ .records → Held A (j k) (recs j k)) (sym (attached-record (A .sheet) (A .rows) (A .records) s₂ level side e r))
           (λ k l. held-more A (s₂ .journal) (s₂ .records) (up.chainRecord room level side (s₂ .rows r) e r) (λ k m. rw (L .journal-same) (I .held k (omega (arith, L .records-same)))) new k (omega (arith, rest .1)))
         where
           new : Held A (up.chainRecord room level side (s₂ .rows r) e r) (recs (s₂ .journal) (s₂ .records))
-          new = rw (slot-journal A E s Y B G level e x I P K counted side goes s₂ r c Y₁ B₁ L) (record {
+          new = rw (slot-journal A E I P K counted side goes L) (record {
             first = G .end Falling x;
             real = first-real (I .state .frame .chain) x (P .live);
             before = G .length Falling x;
@@ -184,7 +184,7 @@ module _ (A : Setting) {p h : ℕ} (E : Time (plan A) p h) where
       gone b l q = omega (arith, l, ap (size X) q, gone₂ N E (L .state₁) (L .pre₁) side goes c (L .slot))
 
       -- both rows of a match passed up
-      module _ (q d : ℕ) (M : MetRow A E s Y B G level e x I P K counted side goes s₂ r c Y₁ B₁ L q d) where
+      module _ {q d : ℕ} (M : MetRow A E I P K counted side goes L q d) where
         abbrev b₁ : Work
         b₁ = joined (A .sheet) (A .rows) (A .records) a₁ side q r
 
@@ -192,15 +192,15 @@ module _ (A : Setting) {p h : ℕ} (E : Time (plan A) p h) where
         J = joined-rest (A .sheet) (A .rows) (A .records) a₁ side q r
 
         listed-b : listed (journalOf b₁) ≡ k
-        listed-b = ap listed (b-journal A E s Y B G level e x I P K counted side goes s₂ r c Y₁ B₁ L q d M) ∙ listed₁
+        listed-b = ap listed (b-journal A E I P K counted side goes L M) ∙ listed₁
 
         abbrev F : Table
-        F = Rattle.hartley.proofs.invariant.Branches.matched side (Y₂ A E s Y B G level e x I P K counted side goes s₂ r c Y₁ B₁ L) c d
+        F = Rattle.hartley.proofs.invariant.Branches.matched side (Y₂ A E I P K counted side goes L) c d
 
         Ib : Inv A E b₁ F B₁ X (edge 0)
         Ib = record {
-          state = b-state A E s Y B G level e x I P K counted side goes s₂ r c Y₁ B₁ L q d M;
-          tied = tie-none (b-tied A E s Y B G level e x I P K counted side goes s₂ r c Y₁ B₁ L q d M) gone 0;
+          state = b-state A E I P K counted side goes L M;
+          tied = tie-none (b-tied A E I P K counted side goes L M) gone 0;
           held = λ k m. rw (J .0) (held-attached k (omega (arith, J .2)));
           reach-rows = omega (arith, L .inside, rest .0, J .1);
           reach-records = omega (arith, L .not-high, rest .0, rest .1, J .1, J .2);
@@ -211,7 +211,7 @@ module _ (A : Setting) {p h : ℕ} (E : Time (plan A) p h) where
         Pass u i Y₃ B₃ G₃ v = Went A E v (listed (journalOf u)) (λ Y′ B′ G′. Passed (suc level) i Y₃ Y′ B₃ B′ G₃ G′)
 
         first-pass : Pass b₁ d F B₁ X (up.passUp room next b₁ q)
-        first-pass = pass-outcome level next ih b₁ q d F B₁ X Ib (M .alive) (M .name-met) (level-of-met N E (L .state₁) (L .pre₁) (L .whole₁) side goes c (L .slot) (B .born) (L .born) (L .old) d (M .alive) (M .tip-met))
+        first-pass = pass-outcome level next ih Ib (M .alive) (M .name-met) (level-of-met N E (L .state₁) (L .pre₁) (L .whole₁) side goes c (L .slot) (B .born) (L .born) (L .old) d (M .alive) (M .tip-met))
             (clean-met N E (L .state₁) (L .pre₁) (L .whole₁) side goes c (L .slot) (B .born) (L .born) (L .old) d (M .alive) (M .tip-met)) (omega (arith, listed-b, counted))
 
         both-kept : (Y₃ Y₄ : Table) (B₃ B₄ : Naming) (G₃ G₄ : Paths) → Passed (suc level) d F Y₃ B₁ B₃ X G₃ → Passed (suc level) c Y₃ Y₄ B₃ B₄ G₃ G₄ → Kept level x (B .born) Y Y₄ B B₄ G G₄
@@ -239,7 +239,7 @@ module _ (A : Setting) {p h : ℕ} (E : Time (plan A) p h) where
         twice f u w =
             let g = second N E (L .state₁) (L .pre₁) (L .whole₁) side goes c (L .slot) (B .born) (L .born) (L .old) d (M .alive) (M .tip-met) (w .births) (w .names) (w .paths) (w .kept) (λ z. f (sym z)) in
             let lv = level-of N E (L .state₁) (L .pre₁) (L .whole₁) side goes c (L .slot) (B .born) (L .born) (L .old) d (M .alive) (M .tip-met) in
-            let v = pass-outcome level next ih u r c (w .births) (w .names) (w .paths) (w .inv) (g .1) (g .2 ∙ L .name-is) (ap (λ (i : Row ℕ). i .level) (g .0) ∙ lv) (w .kept .stays .whole) (omega (arith, w .listed-is, listed-b, counted)) in
+            let v = pass-outcome level next ih (w .inv) (g .1) (g .2 ∙ L .name-is) (ap (λ (i : Row ℕ). i .level) (g .0) ∙ lv) (w .kept .stays .whole) (omega (arith, w .listed-is, listed-b, counted)) in
             record {
               births = v .births;
               names = v .names;
@@ -266,15 +266,15 @@ module _ (A : Setting) {p h : ℕ} (E : Time (plan A) p h) where
             by true f = once (same-birth (eqb-true q r f)) u first-pass
             by false f = subst Ended (sym (afterwards u u (up.passUp room next u r) Done (first-pass .inv .is-done))) (twice (other-birth (eqb-false q r f)) u first-pass)
 
-      met-outcome : {f : Found} → Met A E s Y B G level e x I P K counted side goes s₂ r c Y₁ B₁ L f → Ended (up.meet room next a₁ side r f)
+      met-outcome : {f : Found} → Met A E I P K counted side goes L f → Ended (up.meet room next a₁ side r f)
       unfolding up.meet
       met-outcome (none I₂) = record {
-        births = Y₂ A E s Y B G level e x I P K counted side goes s₂ r c Y₁ B₁ L;
+        births = Y₂ A E I P K counted side goes L;
         names = B₁;
         paths = X;
         inv = record {
           state = I₂;
-          tied = tie-none (a-tied A E s Y B G level e x I P K counted side goes s₂ r c Y₁ B₁ L) gone 0;
+          tied = tie-none (a-tied A E I P K counted side goes L) gone 0;
           held = held-attached;
           reach-rows = omega (arith, L .inside, rest .0);
           reach-records = omega (arith, L .not-high, rest .0, rest .1);
@@ -283,7 +283,7 @@ module _ (A : Setting) {p h : ℕ} (E : Time (plan A) p h) where
         listed-is = listed₁;
         kept = L .kept₁ (kept₂ N E (L .state₁) (L .pre₁) (L .whole₁) side goes c (L .slot) (B .born) (L .born) (L .old));
       }
-      met-outcome (some q d M) = both-outcome q d M
+      met-outcome (some M) = both-outcome M
 
       on-row-is : up.attach room s₂ level side e r ≡ a₁ → up.onRow room next s₂ level side e r ≡ up.meet room next a₁ side r (up.meeting room a₁ level side e)
       unfolding up.onRow
@@ -291,8 +291,8 @@ module _ (A : Setting) {p h : ℕ} (E : Time (plan A) p h) where
 
       pub on-row-outcome : Ended (up.onRow room next s₂ level side e r)
       on-row-outcome =
-          let M = meets A E s Y B G level e x I P K counted side goes s₂ r c Y₁ B₁ L (up.meeting room a₁ level side e) refl in
-          subst Ended (sym (on-row-is (guards A E s Y B G level e x I P K counted side goes s₂ r c Y₁ B₁ L M))) (met-outcome M)
+          let M = meets A E I P K counted side goes L (up.meeting room a₁ level side e) refl in
+          subst Ended (sym (on-row-is (guards A E I P K counted side goes L M))) (met-outcome M)
 
     abbrev r₁ : ℕ
     r₁ = up.chosen room s
@@ -341,11 +341,11 @@ module _ (A : Setting) {p h : ℕ} (E : Time (plan A) p h) where
 
       chain-outcome : (f : Found) → up.find room s level side (bottom side e) ≡ f → Ends (up.inChain room next s level side e f)
       unfolding up.inChain
-      chain-outcome (At r) q = let o = found-row A E s Y B G level e x I P K counted side goes r q in went (on-row-outcome s r (o .0) Y B (o .1))
+      chain-outcome (At r) q = let o = found-row A E I P K counted side goes r q in went (on-row-outcome (o .1))
       chain-outcome Nothing q = by (up.canOpen room s) refl
         where
           by : (t : Bool) → up.canOpen room s ≡ t → Ends (cond t (up.onRow room next (up.open-row room s r₁ level (bottom side e)) level side e r₁) (up.ended NoFreeRow s))
-          by true t = went (on-row-outcome _ r₁ (B .born) _ _ (opened-row A E s Y B G level e x I P K counted side goes q (ltb-true r₁ (A .rows) (sym opens-by ∙ t))))
+          by true t = went (on-row-outcome (opened-row A E I P K counted side goes q (ltb-true r₁ (A .rows) (sym opens-by ∙ t))))
           by false t = no-row q (ltb-false r₁ (A .rows) (sym opens-by ∙ t)) t
 
       pub steps-outcome : Ends (up.stepsOn room next s level side e)
@@ -353,7 +353,7 @@ module _ (A : Setting) {p h : ℕ} (E : Time (plan A) p h) where
       steps-outcome = chain-outcome (up.find room s level side (bottom side e)) refl
 
   -- a closing edge
-  module _ (s : Work) (l c : ℕ) (e : LevelEdge ℕ) (Y : Table) (B : Naming) (G : Paths) (I : Inv A E s Y B G (row c)) (P : Pre sh p h Y B G (suc l) e (row c)) (K : WholeBy (suc l) Y G) (few : listed (journalOf s) ≤ A .sheet .edges) (ends : e .tail ≡ e .head) where
+  module _ {s : Work} {l c : ℕ} {e : LevelEdge ℕ} {Y : Table} {B : Naming} {G : Paths} (I : Inv A E s Y B G (row c)) (P : Pre sh p h Y B G (suc l) e (row c)) (K : WholeBy (suc l) Y G) (few : listed (journalOf s) ≤ A .sheet .edges) (ends : e .tail ≡ e .head) where
     abbrev z : Work
     z = closed (A .sheet) (A .rows) (A .records) s (suc l) e
 
@@ -410,13 +410,13 @@ module _ (A : Setting) {p h : ℕ} (E : Time (plan A) p h) where
         })
 
   -- an edge that does not close has a level to go to
-  level-left : (s : Work) (level : ℕ) (e : LevelEdge ℕ) (Y : Table) (B : Naming) (G : Paths) (x : Owner) → Inv A E s Y B G x → Pre sh p h Y B G level e x → (e .tail ≡ e .head → ⊥) → suc level ≤ 12
-  level-left s level e Y B G x I P d = level-small N (A .few) (suc level) (room-above N E (I .state) P d)
+  level-left : {s : Work} {level : ℕ} {e : LevelEdge ℕ} {Y : Table} {B : Naming} {G : Paths} {x : Owner} → Inv A E s Y B G x → Pre sh p h Y B G level e x → (e .tail ≡ e .head → ⊥) → suc level ≤ 12
+  level-left {level = level} I P d = level-small N (A .few) (suc level) (room-above N E (I .state) P d)
 
-  goes-on : (level : ℕ) (e : LevelEdge ℕ) (Y : Table) (B : Naming) (G : Paths) (x : Owner) → Pre sh p h Y B G level e x → (e .tail ≡ e .head → ⊥) → (t : Bool) → ltb (A .sheet .height (e .tail)) (A .sheet .height (e .head)) ≡ t
+  goes-on : {level : ℕ} {e : LevelEdge ℕ} {Y : Table} {B : Naming} {G : Paths} {x : Owner} → Pre sh p h Y B G level e x → (e .tail ≡ e .head → ⊥) → (t : Bool) → ltb (A .sheet .height (e .tail)) (A .sheet .height (e .head)) ≡ t
       → height sh (bottom (cond t Rising Falling) e) < height sh (top (cond t Rising Falling) e)
-  goes-on level e Y B G x P d true t = ltb-true (A .sheet .height (e .tail)) (A .sheet .height (e .head)) t
-  goes-on level e Y B G x P d false t = ⊎-elim (λ q. absurd (d (P .flat q))) (λ q. omega (arith, ltb-false (A .sheet .height (e .tail)) (A .sheet .height (e .head)) t, q)) (eq-or-ne (A .sheet .height (e .tail)) (A .sheet .height (e .head)))
+  goes-on {e = e} P d true t = ltb-true (A .sheet .height (e .tail)) (A .sheet .height (e .head)) t
+  goes-on {e = e} P d false t = ⊎-elim (λ q. absurd (d (P .flat q))) (λ q. omega (arith, ltb-false (A .sheet .height (e .tail)) (A .sheet .height (e .head)) t, q)) (eq-or-ne (A .sheet .height (e .tail)) (A .sheet .height (e .head)))
 
   -- an edge of any level, with the levels left above it
   abbrev TreatEnds : (level : ℕ) (s : Work) (e : LevelEdge ℕ) → Table → Naming → Paths → Owner → Work → Type 0
@@ -425,7 +425,7 @@ module _ (A : Setting) {p h : ℕ} (E : Time (plan A) p h) where
   shuts : (level : ℕ) (s : Work) (e : LevelEdge ℕ) (Y : Table) (B : Naming) (G : Paths) (x : Owner) → Inv A E s Y B G x → Pre sh p h Y B G level e x → WholeBy level Y G → edgeBit (nameAt level (e .name)) + listed (journalOf s) ≤ A .sheet .edges → e .tail ≡ e .head → TreatEnds level s e Y B G x (up.close room s level e)
   shuts level s e Y B G (edge a) I P K few q = let w = P .is-row q in absurd (not-edge (w .0) a (sym (w .1)))
   shuts zero s e Y B G (row c) I P K few q = let v = P .named in let z : _≡_ {A = ℕ} 0 1 = cc in absurd (omega arith)
-  shuts (suc l) s e Y B G (row c) I P K few q = went (close-outcome s l c e Y B G I P K (omega arith) q)
+  shuts (suc l) s e Y B G (row c) I P K few q = went (close-outcome I P K (omega arith) q)
 
   pub treat-outcome : (left level : ℕ) → left + level ≡ 12 → Treats level (up.treat room left level)
   unfolding up.treat
@@ -433,9 +433,9 @@ module _ (A : Setting) {p h : ℕ} (E : Time (plan A) p h) where
     where
       by : (t : Bool) → eqb (e .tail) (e .head) ≡ t → TreatEnds level s e Y B G x (cond t (up.close room s level e) (up.ended Overrun s))
       by true t = shuts level s e Y B G x I P K few (eqb-true (e .tail) (e .head) t)
-      by false t = absurd (omega (arith, level-left s level e Y B G x I P (eqb-false (e .tail) (e .head) t), q))
+      by false t = absurd (omega (arith, level-left I P (eqb-false (e .tail) (e .head) t), q))
   treat-outcome (suc left) level q s e Y B G x I P K spare few = by (treat-outcome left (suc level) (omega arith)) (eqb (e .tail) (e .head)) refl
     where
       by : Treats (suc level) (up.treat room left (suc level)) → (t : Bool) → eqb (e .tail) (e .head) ≡ t → TreatEnds level s e Y B G x (cond t (up.close room s level e) (up.stepsOn room (up.treat room left (suc level)) s level (up.sideOf (room .places) e) e))
       by ih true t = shuts level s e Y B G x I P K few (eqb-true (e .tail) (e .head) t)
-      by ih false t = steps-outcome level (up.treat room left (suc level)) ih s Y B G e x I P K few (up.sideOf (room .places) e) (goes-on level e Y B G x P (eqb-false (e .tail) (e .head) t) (ltb (A .sheet .height (e .tail)) (A .sheet .height (e .head))) refl) spare refl
+      by ih false t = steps-outcome level (up.treat room left (suc level)) ih I P K few (up.sideOf (room .places) e) (goes-on P (eqb-false (e .tail) (e .head) t) (ltb (A .sheet .height (e .tail)) (A .sheet .height (e .head))) refl) spare refl
