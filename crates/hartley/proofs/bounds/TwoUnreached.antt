@@ -26,15 +26,19 @@ climbs-one sh Rising Falling e a b = absurd (omega arith)
 climbs-one sh Falling Rising e a b = absurd (omega arith)
 
 module _ {sh : Plan} (N : Lawful sh) {p : ℕ} {G : Paths} {M : Marks} (C : Chain sh G) (S : Seams sh G M) (A : At sh p G M) (edge-finished : (a : ℕ) (s : Side) → M .finished s (edge a) ≡ true) where
-  -- what is beyond the last row of a walk: the walk ends in a row's own edge, or in an edge of the list right beyond a row
-  last-row : (t : Side) (e : ℕ) → 0 < size G (edge e) → {x : Owner} → To N C S A t x e → (b : ℕ) → x ≡ row b → (c : ℕ) × Beyond N C S A t (row c) (edge e) × (M .own-level (row c) ≡ suc (M .own-level (edge e)))
-  last-row t e l (here {x = x} h) b q =
-      let w = end-spot C t x (h .0) in
+  -- an edge of the list that is not treated is on no row
+  not-on-row : (e : ℕ) → 0 < size G (edge e) → (t : Side) (c : ℕ) → 0 < size G (row c) → G .end t (row c) ≡ e → ⊥
+  not-on-row e l t c h q =
+      let w = end-spot C t (row c) h in
       let v = end-spot C t (edge e) l in
-      let z : G .spot e ≡ on x (w .0) = ap (G .spot) (sym (h .1)) ∙ w .1 in
+      let z : G .spot e ≡ on (row c) (w .0) = ap (G .spot) (sym q) ∙ w .1 in
       let y : G .spot e ≡ on (edge e) (v .0) = ap (G .spot) (sym (A .alone e l t)) ∙ v .1 in
       let n : _≡_ {A = ℕ} 0 1 = cc in
-      absurd (omega arith)
+      omega arith
+
+  -- what is beyond the last row of a walk: the walk ends in a row's own edge, or in an edge of the list right beyond a row
+  last-row : (t : Side) (e : ℕ) → 0 < size G (edge e) → {x : Owner} → To N C S A t x e → (b : ℕ) → x ≡ row b → (c : ℕ) × Beyond N C S A t (row c) (edge e) × (M .own-level (row c) ≡ suc (M .own-level (edge e)))
+  last-row t e l (here h) b q = absurd (not-on-row e l t b (rw q at (h .0)) (rw q at (h .1)))
   last-row t e l (further {x = x} {y = row c} h k r) b q = last-row t e l r c refl
   last-row t e l (further {x = x} {y = edge a} h k (here i)) b q =
       let d : a ≡ e = sym (A .alone a (i .0) t) ∙ i .1 in
@@ -62,16 +66,6 @@ module _ {sh : Plan} (N : Lawful sh) {p : ℕ} {G : Paths} {M : Marks} (C : Chai
           let fin : M .finished (otherSide t) (w .heir) ≡ true = ap (M .finished (otherSide t)) same-heir ∙ edge-finished e (otherSide t) in
           let m : Meet true true (M .own-level (row c)) (M .own-level (w .heir)) = rw (q, fin) at (w .meet) in
           absurd (omega (arith, m, ap (M .own-level) same-heir, A .edge-level e, A .row-level c (h .0)))
-
-  -- an edge of the list that is not treated is on no row
-  not-on-row : (e : ℕ) → 0 < size G (edge e) → (t : Side) (c : ℕ) → 0 < size G (row c) → G .end t (row c) ≡ e → ⊥
-  not-on-row e l t c h q =
-      let w = end-spot C t (row c) h in
-      let v = end-spot C t (edge e) l in
-      let z : G .spot e ≡ on (row c) (w .0) = ap (G .spot) (sym q) ∙ w .1 in
-      let y : G .spot e ≡ on (edge e) (v .0) = ap (G .spot) (sym (A .alone e l t)) ∙ v .1 in
-      let n : _≡_ {A = ℕ} 0 1 = cc in
-      omega arith
 
   double : (s : Side) → otherSide (otherSide s) ≡ s
   double Rising = refl

@@ -220,13 +220,14 @@ module _ {n : ℕ} {T Y : Table} {B : Naming} {G : Paths} {x : Owner} (one-name 
     named = K .named;
   }
 
+-- no row is an edge
+pub not-edge : (b a : ℕ) → row b ≡ edge a → ⊥
+not-edge b a e = let z : _≡_ {A = ℕ} 0 1 = cc in omega arith
+
 -- no live row is in hand: an edge of the list is, or what was in hand is gone
 pub tie-none : {n : ℕ} {T Y : Table} {B : Naming} {G : Paths} {x : Owner} → Tied n T Y B G x → ((b : ℕ) → 0 < size G (row b) → row b ≡ x → ⊥) → (a : ℕ) → Tied n T Y B G (edge a)
 tie-none K none a = record {
   of-live = λ b l f. K .of-live b l (none b l);
-  to-live = λ r u. let o = K .to-live r u in (o .0, o .1, not-edge (o .0), o .3);
+  to-live = λ r u. let o = K .to-live r u in (o .0, o .1, not-edge (o .0) a, o .3);
   named = K .named;
 }
-  where
-    not-edge : (b : ℕ) → row b ≡ edge a → ⊥
-    not-edge b e = let z : _≡_ {A = ℕ} 0 1 = cc in omega arith

@@ -26,7 +26,7 @@ use Rattle.hartley.proofs.paths.JournalLinked.{Naming}
 use Rattle.hartley.proofs.paths.Outlines.{Outs}
 use Rattle.hartley.proofs.paths.RecordsCounted.{listed}
 use Rattle.hartley.proofs.invariant.Invariant.{LocalAt, Time, single}
-use Rattle.hartley.proofs.invariant.TableTied.{Table, State, marksOf, tie-none}
+use Rattle.hartley.proofs.invariant.TableTied.{Table, State, marksOf, not-edge, tie-none}
 use Rattle.hartley.proofs.step.RowOfStepOne.{Pre}
 use Rattle.hartley.proofs.invariant.LeftAlone.{WholeBy, Kept}
 use Rattle.hartley.proofs.invariant.BeforeTheFirst as init
@@ -245,7 +245,7 @@ module _ (A : Setting) where
     paths = Q .paths;
     inv = record {
       state = advance (topOf sh i) (topOf sh (suc i)) i (Q .births) (journalOf s) (Q .names) (Q .paths) (omega (arith, N .order i (suc i) (omega arith) h, top-height N i l, top-height N (suc i) h)) (Q .gone i (omega arith)) (Q .clean) (Q .inv .state);
-      tied = tie-none (Q .inv .tied) (λ b k e. let z : _≡_ {A = ℕ} 0 1 = cc in omega arith) (suc i);
+      tied = tie-none (Q .inv .tied) (λ b k. not-edge b 0) (suc i);
       held = Q .inv .held;
       reach-rows = Q .inv .reach-rows;
       reach-records = Q .inv .reach-records;

@@ -13,7 +13,7 @@ use Rattle.hartley.proofs.paths.DownLaw.{Rec}
 use Rattle.hartley.proofs.paths.Paths.{Owner, edge, row, Paths, size}
 use Rattle.hartley.proofs.paths.JournalLinked.{Naming}
 use Rattle.hartley.proofs.invariant.Invariant.{Time}
-use Rattle.hartley.proofs.invariant.TableTied.{Table, State}
+use Rattle.hartley.proofs.invariant.TableTied.{Table, State, not-edge}
 use Rattle.hartley.proofs.invariant.Branches.{matched, matched-alike, matched-same}
 use Rattle.hartley.proofs.invariant.LeftAlone.{Whole, WholeBy, SamePath, same-size, Kept, Passed}
 use Rattle.hartley.proofs.step.RowOfStepOne.{HasTip, Pre, Slot}
@@ -48,7 +48,7 @@ module _ {sh : Plan} (N : Lawful sh) {p m : ℕ} (E : Time sh p m) {Y : Table} {
       names = λ b l. refl;
       dead = dead₂;
       grows = k-born;
-      edges = λ a h. rest₂ N E I P s goes c R (edge a) (λ q. let z : _≡_ {A = ℕ} 0 1 = cc in omega arith) h .2;
+      edges = λ a h. rest₂ N E I P s goes c R (edge a) (λ q. not-edge c a (sym q)) h .2;
       whole = whole₂;
     };
     gone = gone₂ N E I P s goes c R;
@@ -162,8 +162,8 @@ module _ {sh : Plan} (N : Lawful sh) {p m : ℕ} (E : Time sh p m) {Y : Table} {
         where
           by : (y : Owner) → x ≡ y → size G₄ x ≡ 0
           by (edge a) q =
-              let u = D .stays .edges a (λ z. let n : _≡_ {A = ℕ} 0 1 = cc in omega arith) in
-              let v = A .stays .edges a (λ z. let n : _≡_ {A = ℕ} 0 1 = cc in omega arith) in
+              let u = D .stays .edges a (λ z. not-edge c a (sym z)) in
+              let v = A .stays .edges a (λ z. not-edge d a (sym z)) in
               ap (size G₄) q ∙ u ∙ v ∙ ap (size H) (sym q) ∙ kept₂ .gone
           by (row b) q =
               let young = I .told b (rw q at (P .live)) .young in
@@ -178,7 +178,7 @@ module _ {sh : Plan} (N : Lawful sh) {p m : ℕ} (E : Time sh p m) {Y : Table} {
           names = λ b l. D .stays .names b (omega (arith, l, k-born, A .stays .grows)) ∙ A .stays .names b (omega (arith, l, k-born));
           dead = λ b l h. D .stays .dead b (omega (arith, l, k-born, A .stays .grows)) (A .stays .dead b (omega (arith, l, k-born)) (dead₂ b l h));
           grows = omega (arith, k-born, A .stays .grows, D .stays .grows);
-          edges = λ a h. D .stays .edges a (λ q. let z : _≡_ {A = ℕ} 0 1 = cc in omega arith) ∙ A .stays .edges a (λ q. let z : _≡_ {A = ℕ} 0 1 = cc in omega arith) ∙ kept₂ .stays .edges a h;
+          edges = λ a h. D .stays .edges a (λ q. not-edge c a (sym q)) ∙ A .stays .edges a (λ q. not-edge d a (sym q)) ∙ kept₂ .stays .edges a h;
           whole = whole₄;
         };
         gone = gone₄;

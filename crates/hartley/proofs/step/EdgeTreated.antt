@@ -34,7 +34,7 @@ use Rattle.hartley.proofs.paths.JournalLinked.{Naming, nameOf, toPlace}
 use Rattle.hartley.proofs.paths.RecordsCounted.{edgeBit, listed}
 use Rattle.hartley.proofs.invariant.Invariant as invariant
 use Rattle.hartley.proofs.invariant.Invariant.{Time, side-cases, lone-real, single}
-use Rattle.hartley.proofs.invariant.TableTied.{Table, State, Tied, marksOf, tie-free, tie-none}
+use Rattle.hartley.proofs.invariant.TableTied.{Table, State, Tied, marksOf, not-edge, tie-free, tie-none}
 use Rattle.hartley.proofs.invariant.LeftAlone.{Whole, WholeBy, Kept, Passed, untouched}
 use Rattle.hartley.proofs.bounds.LengthsAndLevels.{size-small, level-small, records-small}
 use Rattle.hartley.proofs.bounds.RowsOfALevel.{passes}
@@ -52,10 +52,6 @@ use Rattle.hartley.proofs.step.EdgeInHand.{Inv, Crowded, Went, Spare, O
 
 afterwards : (x y z : Work) (d : End) → x .end ≡ d → up.afterDone (x .end) y z ≡ up.afterDone d y z
 afterwards x y z d e = ap (λ t. up.afterDone t y z) e
-
--- no row is an edge
-not-edge : (b a : ℕ) → row b ≡ edge a → ⊥
-not-edge b a e = let z : _≡_ {A = ℕ} 0 1 = cc in omega arith
 
 -- the sweep's height is that of p, and h edges are treated or in hand
 module _ (A : Setting) {p h : ℕ} (E : Time (plan A) p h) where

@@ -13,7 +13,7 @@ use Rattle.hartley.proofs.paths.Paths.{Owner, row, Paths, size}
 use Rattle.hartley.proofs.paths.JournalLinked.{Naming}
 use Rattle.hartley.proofs.seams.Seams.{one-film, end-spot}
 use Rattle.hartley.proofs.invariant.Invariant.{LocalAt, Time}
-use Rattle.hartley.proofs.invariant.TableTied.{Table, marksOf, Told, State}
+use Rattle.hartley.proofs.invariant.TableTied.{Table, marksOf, Told, State, not-edge}
 use Rattle.hartley.proofs.invariant.LeftAlone.{Whole}
 use Rattle.hartley.proofs.step.RowOfStepOne.{Pre}
 
@@ -26,7 +26,7 @@ pre-row {sh} N {p} {m} E Y J B G c q I l W nm = record {
   level-is = refl;
   end-is = ends;
   length-is = lengths;
-  mine = λ a h. let z : _≡_ {A = ℕ} 0 1 = cc in absurd (omega arith);
+  mine = λ a h. absurd (not-edge c a h);
   goes = goes′;
   flat = λ h. sym (ends Falling) ∙ N .flat _ _ (one-film N (I .frame .chain) x l) (ap (height sh) (ends Falling) ∙ h ∙ ap (height sh) (sym (ends Rising))) ∙ ends Rising;
   is-row = λ h. (c, refl);
