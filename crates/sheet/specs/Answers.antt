@@ -1,4 +1,4 @@
--- The answer sheet of the numbering (01, "The answer sheet", and 16 of 02): each refusal's number and place, when it is given, what it leaves, the order of trying.
+-- The answer sheet of the numbering (01, "The answer sheet", and 16 and 17 of 02): each refusal's number and place, when it is given, what it leaves, the order of trying.
 use Prim.Native.Nat.{ℕ, zero, suc, _+_, _-_, _*_, _%_}
 use mathlib.Core.Bool.{Bool, true, false, cond, not, _&&_, _||_}
 use mathlib.Core.List.{List, _++_}
@@ -18,6 +18,7 @@ use Rattle.sheet.specs.declared.Refusal.the-variants.{
   TopFalls,
   Repeated,
   Uneven,
+  NotAlternating,
   NoRow,
 }
 use Rattle.sheet.specs.declared.Check.{Check}
@@ -26,7 +27,8 @@ use Rattle.sheet.specs.declared.Answer.{Answer}
 use Rattle.sheet.specs.declared.Answer.the-variants as answer
 use Rattle.sheet.specs.Points.{inRange, isFilm, isSame, isBelow, topOf}
 use Rattle.sheet.specs.Edges.{Drawing, edgeAt, edgesIn, drawingOf}
-use Rattle.sheet.specs.Kinds.{Way, arriving, leaving, From, below, above, endOf, comes, numberAt}
+use Rattle.sheet.specs.Kinds.{Way, arriving, leaving, sameFrom, endOf, comes, numberAt}
+use Rattle.sheet.specs.Corners.{four, cornerAt, alternate}
 use Rattle.sheet.specs.Amounts.{numbersPerEdge, journalNumbersPerEdge, mostEdges}
 
 -- What the checks see of a call: the edge list, and how many numbers long the two number lists, the turn list and the journal are.
@@ -49,6 +51,7 @@ numberOf (EqualEnds e) = 6
 numberOf (TopFalls e) = 7
 numberOf (Repeated e) = 8
 numberOf (Uneven e) = 9
+numberOf (NotAlternating e) = 17
 numberOf (NoRow e) = 10
 
 -- column 3
@@ -63,6 +66,7 @@ placeOf (EqualEnds e) = e
 placeOf (TopFalls e) = e
 placeOf (Repeated e) = e
 placeOf (Uneven e) = e
+placeOf (NotAlternating e) = e
 placeOf (NoRow e) = e
 
 -- 1: the list is not made of whole edges
@@ -105,12 +109,6 @@ edgeFault s e = pastRange s e || (filmPastRange s e || (equalEnds s e || topFall
 abbrev pub faultOf : List ℤ → ℕ → Refusal
 faultOf s e = cond (pastRange s e) (PastRange e) (cond (filmPastRange s e) (FilmPastRange e) (cond (equalEnds s e) (EqualEnds e) (TopFalls e)))
 
-abbrev pub sameFrom : From → From → Bool
-sameFrom below below = true
-sameFrom below above = false
-sameFrom above below = false
-sameFrom above above = true
-
 -- edges e and f are of one kind at one place
 unfoldable pub sameKind : Drawing → Way → ℕ → ℕ → Bool
 sameKind sh w e f = eqb (endOf sh w e) (endOf sh w f) && sameFrom (comes sh w e) (comes sh w f)
@@ -126,6 +124,13 @@ differ sh p = not (eqb (numberAt sh arriving p) (numberAt sh leaving p))
 unfoldable pub uneven : Drawing → ℕ → Bool
 uneven sh e = differ sh (sh .tail e) || differ sh (sh .head e)
 
+-- 17: a place with four edges that do not alternate arriving and leaving round it, or two in one direction, and an edge with an end there
+unfoldable pub tangled : Drawing → ℕ → Bool
+tangled sh p = four sh p && not (alternate (cornerAt sh p))
+
+unfoldable pub notAlternating : Drawing → ℕ → Bool
+notAlternating sh e = tangled sh (sh .tail e) || tangled sh (sh .head e)
+
 -- the refusal where the test holds, otherwise what is tried next
 abbrev pub refuseIf : Bool → Refusal → Check → Check
 refuseIf true r rest = check.Refused r
@@ -135,7 +140,7 @@ refuseIf false r rest = rest
 abbrev pub refuseFirst : (ℕ → Bool) → ℕ → (ℕ → Refusal) → Check → Check
 refuseFirst test n refusal rest = refuseIf (ltb (first test n) n) (refusal (first test n)) rest
 
--- the order under the table: 1 to 4; the first edge with 5, 16, 6 or 7; 8 over the whole list; 9 over the whole list
+-- the order under the table: 1 to 4; the first edge with 5, 16, 6 or 7; 8 over the whole list; 9 over the whole list; 17 over the whole list
 unfoldable pub checked : Call → Check
 checked c =
     refuseIf (notWhole c) NotWhole
@@ -145,7 +150,8 @@ checked c =
     (refuseFirst (edgeFault (c .list)) (edgesIn (c .list)) (faultOf (c .list))
     (refuseFirst (repeats (drawingOf (c .list))) (edgesIn (c .list)) Repeated
     (refuseFirst (uneven (drawingOf (c .list))) (edgesIn (c .list)) Uneven
-    check.Passed))))))
+    (refuseFirst (notAlternating (drawingOf (c .list))) (edgesIn (c .list)) NotAlternating
+    check.Passed)))))))
 
 -- the checks come first; where they are passed the steps answer, which may still refuse with 10
 abbrev pub answered : Check → Answer → Answer

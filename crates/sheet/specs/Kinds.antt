@@ -1,7 +1,7 @@
 -- The four kinds of an edge at a place, and what a sound list is.
 use Prim.Native.Nat.{ℕ, _<_}
 use mathlib.Core.Path.{_≡_}
-use mathlib.Core.Bool.{cond}
+use mathlib.Core.Bool.{Bool, true, false, cond}
 use lib.Dec.{eqb, ltb}
 use Rattle.laws.specs.Counting.{count}
 use Rattle.sheet.specs.Edges.{Drawing}
@@ -15,6 +15,16 @@ pub data Way : Type 0 where
 pub data From : Type 0 where
   below : From
   above : From
+
+abbrev pub otherFrom : From → From
+otherFrom below = above
+otherFrom above = below
+
+abbrev pub sameFrom : From → From → Bool
+sameFrom below below = true
+sameFrom below above = false
+sameFrom above below = false
+sameFrom above above = true
 
 abbrev pub otherWay : Way → Way
 otherWay arriving = leaving

@@ -2,8 +2,10 @@
 pub mod Amounts
 pub mod Points
 pub mod Rank
+pub mod Turning
 pub mod Edges
 pub mod Kinds
+pub mod Corners
 pub mod Joining
 pub mod Numbering
 pub mod Passing

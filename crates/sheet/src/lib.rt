@@ -160,6 +160,7 @@ pub enum Refusal {
     TopFalls(u32),
     Repeated(u32),
     Uneven(u32),
+    NotAlternating(u32),
     NoRow(u32),
 }
 
@@ -178,6 +179,7 @@ impl Refusal {
             Refusal::TopFalls(_) => 7,
             Refusal::Repeated(_) => 8,
             Refusal::Uneven(_) => 9,
+            Refusal::NotAlternating(_) => 17,
             Refusal::NoRow(_) => 10,
         }
     }
@@ -196,6 +198,7 @@ impl Refusal {
             Refusal::TopFalls(e) => e,
             Refusal::Repeated(e) => e,
             Refusal::Uneven(e) => e,
+            Refusal::NotAlternating(e) => e,
             Refusal::NoRow(e) => e,
         }
     }
