@@ -37,13 +37,13 @@ module _ {sh : Drawing} (K : Checked sh) {polygon sequence : ℕ → ℕ} {n : �
   two-of : (e : ℕ) → e < sh .edges → 2 ≤ outlineSize sh polygon (polygon e)
   two-of e l = ⊎-elim (λ h. h) (λ h. absurd (one h)) (lt-or-le 1 (outlineSize sh polygon (polygon e)))
     where
-      F : Follows sh e (joins (K .sound) .next e)
-      F = joins (K .sound) .follows e l
+      F : Follows sh e (joins K .next e)
+      F = joins K .follows e l
 
       one : outlineSize sh polygon (polygon e) ≤ 1 → ⊥
       one h =
           let p = A .shared _ _ F in
-          let q : joins (K .sound) .next e ≡ e = A .pairs _ _ (F .next-is-edge) l p (omega (arith, h, sequence-below K A e l, sequence-below K A _ (F .next-is-edge), ap (outlineSize sh polygon) p)) in
+          let q : joins K .next e ≡ e = A .pairs _ _ (F .next-is-edge) l p (omega (arith, h, sequence-below K A e l, sequence-below K A _ (F .next-is-edge), ap (outlineSize sh polygon) p)) in
           not-alone e (rw q at F)
 
   -- so there are at most half as many polygons as edges: the k-th edge counted over the polygons, two of each

@@ -1,7 +1,6 @@
 -- What the theory needs of a checked list, as one record, and the joins that it then has. Whoever changes what a place is or how edges join
 -- proves `Checked` anew and nothing else.
 use mathlib.Core.Path.{_≡_}
-use mathlib.Core.Bool.{true}
 use mathlib.Core.Logic.{_⊎_, inl, inr}
 use Prim.Native.Nat.{ℕ, zero, suc, _+_, _-_, _≤_, _<_}
 use native.Mathlib.Omega.{arith}
@@ -9,9 +8,8 @@ use Rattle.laws.proofs.Deciding.{lt-or-le}
 use Rattle.laws.proofs.Pigeonhole.{reached}
 use Rattle.sheet.specs.Edges.{Drawing, topHeight}
 use Rattle.sheet.specs.Sound.{SweepOrder, Sound}
-use Rattle.sheet.specs.Kinds.{below, above, arriving, leaving, comes}
 use Rattle.sheet.specs.Joining.{Follows}
-use Rattle.sheet.proofs.Following.{next-exists, next-unique, next-one-to-one}
+use Rattle.sheet.proofs.Following.{TurnsBySides, next-exists, next-unique, next-one-to-one}
 
 -- tops never fall, from edge to edge and so from any edge to any later one
 rising-tops : (sh : Drawing) → SweepOrder sh → (d e : ℕ) → e + d < sh .edges → topHeight sh e ≤ topHeight sh (e + d)
@@ -28,8 +26,8 @@ pub record Checked (sh : Drawing) : Type 0 where
   pub proper : (e : ℕ) → e < sh .edges → sh .tail e ≡ sh .head e → ⊥
   pub order : SweepOrder sh
   pub sound : Sound sh
-  -- where a place is apart, an edge that arrives from below can go on upwards
-  pub parted : (e : ℕ) → e < sh .edges → sh .apart (sh .head e) ≡ true → comes sh arriving e ≡ below → (f : ℕ) × (f < sh .edges) × (sh .tail f ≡ sh .head e) × (comes sh leaving f ≡ above)
+  -- where four edges meet, the first one met turning clockwise is told by its side and by whether the place is apart
+  pub turning : TurnsBySides sh
 
 -- the joins of a list as functions
 pub record Joins (sh : Drawing) : Type 0 where
@@ -40,15 +38,15 @@ pub record Joins (sh : Drawing) : Type 0 where
   pub one-to-one : (e f : ℕ) → e < sh .edges → f < sh .edges → next e ≡ next f → e ≡ f
   pub before : (e : ℕ) → e < sh .edges → (prev e < sh .edges) × (next (prev e) ≡ e)
 
-module _ {sh : Drawing} (S : Sound sh) where
+module _ {sh : Drawing} (K : Checked sh) where
   -- past the list the functions have no meaning and give 0
   pick-next : (e : ℕ) → (e < sh .edges) ⊎ (sh .edges ≤ e) → ℕ
-  pick-next e (inl l) = next-exists S e l .0
+  pick-next e (inl l) = next-exists (K .sound) (K .turning) e l .0
   pick-next e (inr l) = 0
 
   picked : (e : ℕ) → e < sh .edges → (t : (e < sh .edges) ⊎ (sh .edges ≤ e)) → Follows sh e (pick-next e t)
   unfolding pick-next
-  picked e l (inl h) = next-exists S e h .1
+  picked e l (inl h) = next-exists (K .sound) (K .turning) e h .1
   picked e l (inr h) = absurd (omega arith)
 
   nextOf : ℕ → ℕ
@@ -59,7 +57,7 @@ module _ {sh : Drawing} (S : Sound sh) where
   next-follows e l = picked e l (lt-or-le e (sh .edges))
 
   next-inj : (e f : ℕ) → e < sh .edges → f < sh .edges → nextOf e ≡ nextOf f → e ≡ f
-  next-inj e f el fl h = next-one-to-one S e f (nextOf e) (next-follows e el) (rw h (next-follows f fl))
+  next-inj e f el fl h = next-one-to-one (K .sound) (K .turning) e f (nextOf e) (next-follows e el) (rw h (next-follows f fl))
 
   met : (e : ℕ) → e < sh .edges → (x : ℕ) × (x < sh .edges) × (nextOf x ≡ e)
   met = reached nextOf (sh .edges) (λ e l. next-follows e l .next-is-edge) next-inj
@@ -78,7 +76,7 @@ module _ {sh : Drawing} (S : Sound sh) where
     next = nextOf;
     prev = λ e. pick-prev e (lt-or-le e (sh .edges));
     follows = next-follows;
-    only = λ e f a. next-unique S e f (nextOf e) a (next-follows e (a .is-edge));
+    only = λ e f a. next-unique (K .sound) (K .turning) e f (nextOf e) a (next-follows e (a .is-edge));
     one-to-one = next-inj;
     before = λ e l. picked-before e l (lt-or-le e (sh .edges));
   }

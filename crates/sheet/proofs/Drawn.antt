@@ -43,3 +43,15 @@ oneTopAround = 0 ∷ 0 ∷ 1 ∷ 1 ∷ 0 ∷ 2 ∷ 0 ∷ 1 ∷ 1 ∷ 1 ∷ 1 ∷
 -- the two outlines that meet in (1,6), the upper one on film 1
 abbrev pub touchingFilms : List ℕ
 touchingFilms = 3 ∷ 2 ∷ 1 ∷ 6 ∷ 0 ∷ 1 ∷ 6 ∷ 3 ∷ 0 ∷ 0 ∷ 1 ∷ 6 ∷ 2 ∷ 7 ∷ 1 ∷ 3 ∷ 0 ∷ 6 ∷ 8 ∷ 0 ∷ 6 ∷ 8 ∷ 3 ∷ 2 ∷ 0 ∷ 2 ∷ 7 ∷ 0 ∷ 9 ∷ 1 ∷ 0 ∷ 9 ∷ 1 ∷ 6 ∷ 1 ∷ []
+
+-- 02 M-104: two pixels that touch in (1,1), each round its own film
+abbrev pub twoPixels : List ℕ
+twoPixels = 1 ∷ 0 ∷ 2 ∷ 0 ∷ 0 ∷ 0 ∷ 1 ∷ 1 ∷ 1 ∷ 0 ∷ 1 ∷ 1 ∷ 1 ∷ 0 ∷ 0 ∷ 2 ∷ 0 ∷ 2 ∷ 1 ∷ 0 ∷ 2 ∷ 1 ∷ 1 ∷ 1 ∷ 0 ∷ 0 ∷ 2 ∷ 0 ∷ 1 ∷ 0 ∷ 1 ∷ 1 ∷ 1 ∷ 2 ∷ 0 ∷ 1 ∷ 2 ∷ 0 ∷ 2 ∷ 0 ∷ []
+
+-- two outlines that cross in (1,1): on one film arriving and leaving edges do not alternate there
+abbrev pub crossing : ℕ → List ℕ
+crossing film = 1 ∷ 0 ∷ 0 ∷ 1 ∷ 0 ∷ 0 ∷ 1 ∷ 1 ∷ 1 ∷ 0 ∷ 1 ∷ 1 ∷ 1 ∷ 0 ∷ 0 ∷ 1 ∷ 1 ∷ 2 ∷ 1 ∷ film ∷ 1 ∷ 2 ∷ 1 ∷ 1 ∷ film ∷ 2 ∷ 1 ∷ 1 ∷ 2 ∷ film ∷ []
+
+-- the lower two edges at (2,0) go one way from it, over different lengths
+abbrev pub oneWay : List ℕ
+oneWay = 1 ∷ 0 ∷ 0 ∷ 0 ∷ 0 ∷ 0 ∷ 0 ∷ 2 ∷ 0 ∷ 0 ∷ 2 ∷ 0 ∷ 1 ∷ 0 ∷ 0 ∷ 2 ∷ 0 ∷ 2 ∷ 1 ∷ 0 ∷ 2 ∷ 1 ∷ 3 ∷ 1 ∷ 0 ∷ 3 ∷ 1 ∷ 2 ∷ 0 ∷ 0 ∷ []

@@ -16,7 +16,7 @@ use Rattle.sheet.proofs.Checked.{Checked, tops-rise, Joins, joins}
 
 module _ {sh : Drawing} (K : Checked sh) {polygon sequence : ℕ → ℕ} {polygons : ℕ} (A : Numbering sh polygon sequence polygons) where
   abbrev J : Joins sh
-  J = joins (K .sound)
+  J = joins K
 
   pub before-follows : (e : ℕ) → e < sh .edges → Follows sh (J .prev e) e
   before-follows e l = let b = J .before e l in rw (b .1) at (J .follows (J .prev e) (b .0))

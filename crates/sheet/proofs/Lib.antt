@@ -4,6 +4,7 @@ pub mod Shifting
 pub mod Ranks
 pub mod Places
 pub mod Tops
+pub mod AtAPlace
 pub mod Following
 pub mod Checked
 pub mod Leads

@@ -34,7 +34,7 @@ module _ {sh : Drawing} (K : Checked sh) {polygon sequence polygon′ sequence�
   sequence-steps zero e l q = zero-too K A B e l q
   sequence-steps (suc k) e l q =
       let f = before-follows K A e l in
-      let h = sequence-steps k (joins (K .sound) .prev e) (f .is-edge) (step-back K A e k l q .1) in
+      let h = sequence-steps k (joins K .prev e) (f .is-edge) (step-back K A e k l q .1) in
       ⊎-elim (λ u. u ∙ ap suc h) (λ u. absurd (omega (arith, q, zero-too K B A e l u))) (B .counts _ _ f)
 
   pub same-sequence : (e : ℕ) → e < sh .edges → sequence′ e ≡ sequence e

@@ -28,7 +28,7 @@ module _ {sh : Drawing} (K : Checked sh) {polygon sequence : ℕ → ℕ} {polyg
   back-to zero e l k q = (e, l, refl, omega arith)
   back-to (suc d) e l k q =
       let s = step-back K A e (d + k) l (omega arith) in
-      let v = back-to d (joins (K .sound) .prev e) (joins (K .sound) .before e l .0) k (s .1) in
+      let v = back-to d (joins K .prev e) (joins K .before e l .0) k (s .1) in
       (v .0, v .1, v .2 ∙ s .0, v .3)
 
   pub sequence-small : (e : ℕ) → e < sh .edges → sequence e < sh .edges
@@ -43,10 +43,10 @@ module _ {sh : Drawing} (K : Checked sh) {polygon sequence : ℕ → ℕ} {polyg
       ⊎-elim (λ h. outline-trans one (to-lead d n f (a .next-is-edge) fl (p ∙ sym (A .shared _ _ a)) z (omega arith))) (λ h. rw (A .pairs f n fl (a .next-is-edge) (p ∙ sym (A .shared _ _ a)) (z ∙ sym h)) one) (A .counts _ _ a)
     where
       n : ℕ
-      n = joins (K .sound) .next e
+      n = joins K .next e
 
       a : Follows sh e n
-      a = joins (K .sound) .follows e l
+      a = joins K .follows e l
 
       one : InOutline sh e n
       one = onwards itself a

@@ -1,4 +1,4 @@
--- The refusals 1 to 9 and 16 worked by the checks' own definition: one table of calls, each with the number and the place that the answer sheet gives it, and
+-- The refusals 1 to 9, 16 and 17 worked by the checks' own definition: one table of calls, each with the number and the place that the answer sheet gives it, and
 -- one test that is computed over all of it. Where a call has two faults the table says which is answered. 10 is worked with the sweeps, in numbering.
 -- A list of 4,097 edges is said and not written out: it is refused whatever else is lent, and 4,096 such edges get as far as their first fault.
 use Prim.Native.Nat.{ℕ, _*_, _/_}
@@ -7,18 +7,20 @@ use mathlib.Core.Bool.{Bool, true, _&&_}
 use mathlib.Core.List.{List, [], _∷_, map}
 use lib.Dec.{eqb}
 use lib.IntN.{ℤ, pos, negsuc}
-use lib.ListN.{length, replicate}
+use lib.ListN.{length, replicate, take}
 use Rattle.laws.specs.Counting as counting
 use Rattle.sheet.specs.declared.Check.{Check}
 use Rattle.sheet.specs.declared.Check.the-variants.{Passed, Refused}
 use Rattle.sheet.specs.Points as points
 use Rattle.sheet.specs.Rank as ranks
+use Rattle.sheet.specs.Turning as turning
 use Rattle.sheet.specs.Edges as edges
 use Rattle.sheet.specs.Kinds as kinds
+use Rattle.sheet.specs.Corners as corners
 use Rattle.sheet.specs.Answers as answers
 use Rattle.sheet.specs.Answers.{Call, numberOf, placeOf, checked}
 use Rattle.sheet.specs.Amounts.{numbersPerEdge}
-use Rattle.sheet.proofs.Drawn.{triangle, sharedSide, sideTwice}
+use Rattle.sheet.proofs.Drawn.{triangle, twoEdges, sharedSide, sideTwice, twoPixels, crossing, oneWay}
 
 -- a call, and the answer sheet's number and place for it; 0, 0 where it passes
 record Expected : Type 0 where
@@ -84,6 +86,15 @@ calls =
     ∷ case (fitted (map pos sideTwice)) 8 3
     ∷ case (fitted (map pos (0 ∷ 0 ∷ 1 ∷ 1 ∷ 0 ∷ 1 ∷ 1 ∷ 0 ∷ 0 ∷ 1 ∷ []))) 9 0
     ∷ case (fitted (map pos (4 ∷ 2 ∷ 1 ∷ 5 ∷ 0 ∷ 0 ∷ 0 ∷ 4 ∷ 2 ∷ 1 ∷ []))) 7 1
+    -- four edges of one film at a point: pixels that touch, edges that do not alternate, two in one direction over different lengths and over one
+    ∷ case (fitted (map pos twoPixels)) 0 0
+    ∷ case (fitted (map pos (crossing 0))) 17 1
+    ∷ case (fitted (map pos oneWay)) 17 1
+    ∷ case (fitted (map pos (0 ∷ 0 ∷ 1 ∷ 0 ∷ 0 ∷ 1 ∷ 0 ∷ 0 ∷ 0 ∷ 0 ∷ 1 ∷ 0 ∷ 0 ∷ 1 ∷ 0 ∷ 0 ∷ 1 ∷ 1 ∷ 0 ∷ 0 ∷ []))) 17 0
+    -- .. and of two films; 9 and 17 in one list; two edges in one direction, there and back, with no others
+    ∷ case (fitted (map pos (crossing 1))) 0 0
+    ∷ case (fitted (take 25 (map pos (crossing 0)))) 9 3
+    ∷ case (fitted (map pos twoEdges)) 0 0
     -- 4,096 edges pass check 2
     ∷ case (fitted (replicate (numbersPerEdge * 4096) (pos 0))) 6 0
     ∷ []
@@ -115,11 +126,23 @@ unfolding
     ranks.shift
     ranks.rank
     ranks.placeOn
+    turning.sign
+    turning.towards
+    turning.cross
+    turning.turn
+    turning.sameWay
+    turning.sooner
     edges.edgeAt
     edges.edgesIn
     edges.drawingOf
     kinds.comes
     kinds.numberAt
+    corners.four
+    corners.ofKind
+    corners.cornerAt
+    corners.twoInOne
+    corners.leavingFirst
+    corners.alternate
     answers.notWhole
     answers.tooMany
     answers.listsDiffer
@@ -132,5 +155,7 @@ unfolding
     answers.repeats
     answers.differ
     answers.uneven
+    answers.tangled
+    answers.notAlternating
     answers.checked
 all-worked = record { right-all = refl; too-many = λ polygons sequences turns journal. refl }

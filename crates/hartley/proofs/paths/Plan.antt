@@ -76,7 +76,7 @@ pub uneven : {sh : Plan} → Lawful sh → (e : ℕ) → e < sh .list .edges →
 uneven {sh} N e l q = N .proper e l (N .flat (sh .list .tail e) (sh .list .head e) (N .same-film e l) q)
 
 abbrev pub planOf : {sh : Drawing} → Checked sh → Plan
-planOf {sh} K = record { list = sh; next = joins (K .sound) .next; prev = joins (K .sound) .prev }
+planOf {sh} K = record { list = sh; next = joins K .next; prev = joins K .prev }
 
 -- an edge whose other end is lower comes from below, any other from above
 module _ (sh : Drawing) (w : Way) (e : ℕ) where
@@ -93,7 +93,7 @@ module _ (sh : Drawing) (w : Way) (e : ℕ) where
 
 module _ {sh : Drawing} (K : Checked sh) where
   abbrev J : Joins sh
-  J = joins (K .sound)
+  J = joins K
 
   -- where the place is apart, who arrives from below is followed by one that leaves upwards
   goes-up : (a : ℕ) → a < sh .edges → comes sh arriving a ≡ below → sh .apart (sh .head a) ≡ true → comes sh leaving (J .next a) ≡ above

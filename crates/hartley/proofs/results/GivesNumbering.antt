@@ -85,7 +85,7 @@ module _ (A : Setting) (s : Work) (F : Finished A s) (table answers : ℕ → Pa
   is-lead e k i q z = C .once _ _ (q ∙ ap (out k) (sym (sequence-is e k i q) ∙ z) ∙ sym (O .first k (O .within e k i q .0)))
 
   follows-next : (e f : ℕ) → Follows (A .sheet) e f → f ≡ sh .next e
-  follows-next e f a = joins (A .checked .sound) .only e f a
+  follows-next e f a = joins (A .checked) .only e f a
 
   -- an edge with 0 and the edge that it follows are the two top edges of their outline
   top-edges : (d e k i : ℕ) → Follows (A .sheet) d e → F .paths .spot e ≡ out k i → sequence e ≡ 0 → max d e ≡ mark (F .paths) k

@@ -38,7 +38,7 @@ module _ (A : Setting) (polygon : ℕ → ℕ) (shared : (e f : ℕ) → Follows
   levels-few : (L log : ℕ) → ((k : ℕ) → outlineSize (A .sheet) polygon k ≤ L) → L < 2 ^ suc log → (l : ℕ) → weight.Room (plan A) l → l ≤ log
   unfolding outlineSize
   levels-few L log most under l r =
-      let many = room-many (laws A) l r (λ e. eqb (polygon e) (polygon (r .0))) (eq-eqb (polygon (r .0)) (polygon (r .0)) refl) (λ e h t. eq-eqb (polygon (joins (A .checked .sound) .next e)) (polygon (r .0)) (shared e _ (joins (A .checked .sound) .follows e h) ∙ eqb-true (polygon e) (polygon (r .0)) t)) in
+      let many = room-many (laws A) l r (λ e. eqb (polygon e) (polygon (r .0))) (eq-eqb (polygon (r .0)) (polygon (r .0)) refl) (λ e h t. eq-eqb (polygon (joins (A .checked) .next e)) (polygon (r .0)) (shared e _ (joins (A .checked) .follows e h) ∙ eqb-true (polygon e) (polygon (r .0)) t)) in
       ⊎-elim (λ h. absurd (omega (arith, many, most (polygon (r .0)), pow-le (suc log) l h))) (λ h. omega arith) (lt-or-le log l)
 
   module _ (t : ℕ → Row ℕ) (j : ℕ → Record) (c : ℕ) (enough : Enough (A .sheet) polygon c) where

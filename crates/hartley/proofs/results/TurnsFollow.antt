@@ -27,7 +27,7 @@ use Rattle.hartley.proofs.bounds.LengthsAndLevels.{count-every}
 
 module _ {sh : Drawing} (K : Checked sh) {polygon sequence : ℕ → ℕ} {polygons : ℕ} (A : Numbering sh polygon sequence polygons) where
   abbrev J : Joins sh
-  J = joins (K .sound)
+  J = joins K
 
   -- every smaller sequence number is there too
   back-to : (d e : ℕ) → e < sh .edges → (k : ℕ) → sequence e ≡ d + k → (x : ℕ) × (x < sh .edges) × (polygon x ≡ polygon e) × (sequence x ≡ k)
