@@ -1,4 +1,5 @@
--- Sheets of document 01 and of several films worked by the steps, with the peaks that M-103 gives them: one table, one test that is computed over all of it.
+-- Sheets of document 01, of several films and with corners apart worked by the steps, with the peaks that M-103 gives them: one table, one test that is
+-- computed over all of it.
 use Prim.Native.Nat.{ℕ, suc, _/_}
 use mathlib.Core.Path.{_≡_, refl}
 use mathlib.Core.Bool.{Bool, true, false, _&&_}
@@ -10,7 +11,10 @@ use Rattle.laws.specs.Counting as counting
 use Rattle.sheet.specs.Edges as edges
 use Rattle.sheet.specs.Edges.{drawingOf}
 use Rattle.sheet.specs.Rank as ranks
-use Rattle.sheet.proofs.Drawn.{triangle, twoEdges, square, twoPeaks, touching, sharedSide, oneTop, oneTopAround, touchingFilms}
+use Rattle.sheet.specs.Turning as turning
+use Rattle.sheet.specs.Kinds as kinds
+use Rattle.sheet.specs.Corners as corners
+use Rattle.sheet.proofs.Drawn.{triangle, twoEdges, square, twoPeaks, touching, sharedSide, oneTop, oneTopAround, touchingFilms, twoPixels, crossing}
 use Rattle.steps.specs.declared.End.{End}
 use Rattle.steps.specs.declared.End.the-variants.{Done, NoFreeRow, Overrun}
 use Rattle.steps.specs.Rows as rows
@@ -89,6 +93,9 @@ sheets =
     ∷ accepted oneTop 1 3 2 1 6 (2 ∷ 1 ∷ 2 ∷ 0 ∷ 1 ∷ 1 ∷ 1 ∷ 0 ∷ [])
     ∷ accepted oneTopAround 2 3 2 2 6 (1 ∷ 1 ∷ 2 ∷ 1 ∷ 2 ∷ 0 ∷ 1 ∷ 0 ∷ [])
     ∷ accepted touchingFilms 3 6 2 3 11 (2 ∷ 1 ∷ 2 ∷ 2 ∷ 1 ∷ 1 ∷ 2 ∷ 3 ∷ 2 ∷ 0 ∷ 1 ∷ 2 ∷ 1 ∷ 0 ∷ [])
+    -- M-104: two outlines of four edges, where 01 had one of eight; and where each film has two edges at a point, no corner
+    ∷ accepted twoPixels 2 7 2 2 10 (2 ∷ 2 ∷ 1 ∷ 2 ∷ 2 ∷ 1 ∷ 2 ∷ 3 ∷ 2 ∷ 0 ∷ 1 ∷ 1 ∷ 1 ∷ 3 ∷ 1 ∷ 0 ∷ [])
+    ∷ accepted (crossing 1) 2 5 2 1 8 (2 ∷ 1 ∷ 2 ∷ 2 ∷ 2 ∷ 0 ∷ 1 ∷ 1 ∷ 1 ∷ 0 ∷ 1 ∷ 2 ∷ [])
     ∷ []
 
 -- all of them; and in the sheet of two peaks the fifth record puts row 1 into row 1, which was freed for it and opened again (M-103)
@@ -111,6 +118,18 @@ unfolding
     ranks.shift
     ranks.rank
     ranks.placeOn
+    turning.sign
+    turning.towards
+    turning.cross
+    turning.turn
+    turning.sooner
+    kinds.comes
+    kinds.numberAt
+    corners.four
+    corners.ofKind
+    corners.cornerAt
+    corners.lowerApart
+    corners.apart
     rows.lowestFree
     up.foundBelow
     up.hasTip

@@ -7,6 +7,7 @@ use mathlib.Core.List.{List}
 use lib.IntN.{ℤ, pos}
 use lib.ListN.{length}
 use Rattle.sheet.specs.Edges.{Drawing}
+use Rattle.sheet.specs.Corners.{apart}
 use Rattle.steps.specs.declared.Found.the-variants.{Nothing}
 use Rattle.steps.specs.declared.End.the-variants.{Done, NoFreeRow}
 use Rattle.steps.specs.Rows.{Row, closing, Record, LevelEdge, Places, Room}
@@ -22,7 +23,7 @@ plainRoom sh rows records = record { places = placesOf sh; table = plainTable; j
 
 -- the drawing's edges at level 0
 abbrev pub drawnEdge : Drawing → ℕ → LevelEdge ℕ
-drawnEdge sh i = listEdge (placesOf sh) (sh .apart) i (sh .tail i) (sh .head i)
+drawnEdge sh i = listEdge (placesOf sh) (apart sh) i (sh .tail i) (sh .head i)
 
 -- the numbers of a row and of a record in the slices lent
 abbrev pub numbersPerRow : ℕ

@@ -6,6 +6,7 @@ use mathlib.Core.Logic.{_⊎_, inl, inr, ⊎-elim}
 use Prim.Native.Nat.{ℕ, suc, _-_, _^_, _≤_, _<_}
 use native.Mathlib.Omega.{arith}
 use Rattle.laws.proofs.Deciding.{not-both}
+use Rattle.sheet.specs.Corners.{apart}
 use Rattle.steps.specs.declared.Side.{Side}
 use Rattle.steps.specs.declared.Side.the-variants.{Rising, Falling}
 use Rattle.steps.specs.Rows.{otherSide}
@@ -84,14 +85,14 @@ module _ {sh : Plan} (N : Lawful sh) {p m : ℕ} (E : Time sh p m) {G : Paths} {
   local-z = ⊎-elim
       (λ h. record {
         positive = omega arith;
-        peaked = side-cases (λ t. M .finished t z ≡ true → Climbs sh t (H .end t z) × (0 < H .length t z) × (sh .list .apart (tip sh t (H .end t z)) ≡ false)) s (λ q. open-end q) (λ q. absurd (not-both q (h .1)));
+        peaked = side-cases (λ t. M .finished t z ≡ true → Climbs sh t (H .end t z) × (0 < H .length t z) × (apart (sh .list) (tip sh t (H .end t z)) ≡ false)) s (λ q. open-end q) (λ q. absurd (not-both q (h .1)));
         ready = λ f. open-end (f s);
         heavy = λ t k q. side-cases (λ t. ((H .length t z ≡ 0) × (height sh (tip sh t (H .end t z)) < height sh p)) ⊎ (2 ^ k ≤ H .length t z)) s (longer k q)
             (inl (grow-behind C x z n (U .live) s ∙ empty (h .0) (otherSide s), rw (grow-fresh C x z n (U .live) s links (h .0)) (U .bottom))) t;
       })
       (λ h. let L = F .local b (h .0) in record {
         positive = omega arith;
-        peaked = side-cases (λ t. M .finished t z ≡ true → Climbs sh t (H .end t z) × (0 < H .length t z) × (sh .list .apart (tip sh t (H .end t z)) ≡ false)) s (λ q. open-end q)
+        peaked = side-cases (λ t. M .finished t z ≡ true → Climbs sh t (H .end t z) × (0 < H .length t z) × (apart (sh .list) (tip sh t (H .end t z)) ≡ false)) s (λ q. open-end q)
             (λ q. rw (grow-far C x z n (U .live) s links (h .0), grow-behind C x z n (U .live) s) (L .peaked (otherSide s) q));
         ready = λ f. open-end (f s);
         heavy = λ t k q. side-cases (λ t. ((H .length t z ≡ 0) × (height sh (tip sh t (H .end t z)) < height sh p)) ⊎ (2 ^ k ≤ H .length t z)) s (longer k q)
@@ -158,13 +159,13 @@ module _ {sh : Plan} (N : Lawful sh) {p m : ℕ} (E : Time sh p m) {G : Paths} {
   climbs-z = rw (grow-end C x z n (U .live) s links) (U .climbs)
 
   -- no row met
-  pub attach-unmet : ((y : Owner) → 0 < size H y → sh .list .apart p ≡ false → M .finished (otherSide s) y ≡ false → M .own-level y ≡ suc (M .own-level x) → tip sh (otherSide s) (H .end (otherSide s) y) ≡ tip sh s (H .end s z) → ⊥) → Seams sh H M
-  attach-unmet none = both-sides N D (attach-frame .outs) s (seams-unmet N C S x z n (U .live) s links D no-loop (U .both-finished) unfinished up fresh-slot (λ y l f e j. by y l f e j (sh .list .apart p) refl))
+  pub attach-unmet : ((y : Owner) → 0 < size H y → apart (sh .list) p ≡ false → M .finished (otherSide s) y ≡ false → M .own-level y ≡ suc (M .own-level x) → tip sh (otherSide s) (H .end (otherSide s) y) ≡ tip sh s (H .end s z) → ⊥) → Seams sh H M
+  attach-unmet none = both-sides N D (attach-frame .outs) s (seams-unmet N C S x z n (U .live) s links D no-loop (U .both-finished) unfinished up fresh-slot (λ y l f e j. by y l f e j (apart (sh .list) p) refl))
     where
       meets : (y : Owner) → 0 < size H y → Joined sh s (H .end s z) (H .end (otherSide s) y) → tip sh (otherSide s) (H .end (otherSide s) y) ≡ tip sh s (H .end s z)
       meets y l j = joined-tip N s _ _ (end-real D s z alive) (end-real D (otherSide s) y l) j
 
-      by : (y : Owner) → 0 < size H y → M .finished (otherSide s) y ≡ false → M .own-level y ≡ suc (M .own-level x) → Joined sh s (H .end s z) (H .end (otherSide s) y) → (o : Bool) → sh .list .apart p ≡ o → ⊥
+      by : (y : Owner) → 0 < size H y → M .finished (otherSide s) y ≡ false → M .own-level y ≡ suc (M .own-level x) → Joined sh s (H .end s z) (H .end (otherSide s) y) → (o : Bool) → apart (sh .list) p ≡ o → ⊥
       by y l f e j false o = none y l o f e (meets y l j)
       by (edge a) l f e j true o = not-both (F .edge-finished a (otherSide s)) f
       by (row c) l f e j true o =
@@ -173,7 +174,7 @@ module _ {sh : Plan} (N : Lawful sh) {p m : ℕ} (E : Time sh p m) {G : Paths} {
           omega (arith, u, ap (height sh) (meets (row c) l j ∙ at-top), E .low _ (attach-frame .of-row _ c (w .0) (w .1)) s)
 
   -- a row met: the two ends are finished
-  pub attach-met : sh .list .apart p ≡ false → (q : ℕ) → 0 < size H (row q) → M .own-level (row q) ≡ suc (M .own-level x) → tip sh (otherSide s) (H .end (otherSide s) (row q)) ≡ tip sh s (H .end s z)
+  pub attach-met : apart (sh .list) p ≡ false → (q : ℕ) → 0 < size H (row q) → M .own-level (row q) ≡ suc (M .own-level x) → tip sh (otherSide s) (H .end (otherSide s) (row q)) ≡ tip sh s (H .end s z)
       → Frame sh p m H (finish s M z (row q)) × Seams sh H (finish s M z (row q))
   attach-met o q lq lv t =
       let w = end-spot D (otherSide s) (row q) lq in

@@ -6,6 +6,7 @@ use mathlib.Core.Logic.{_⊎_, inl, inr, ⊎-elim}
 use Prim.Native.Nat.{ℕ, zero, suc, _-_, _^_, _≤_, _<_, max}
 use native.Mathlib.Omega.{arith}
 use lib.Pow.{pow-pos}
+use Rattle.sheet.specs.Corners.{apart}
 use Rattle.steps.specs.declared.Side.{Side}
 use Rattle.steps.specs.declared.Side.the-variants.{Rising, Falling}
 use Rattle.steps.specs.Rows.{otherSide}
@@ -22,7 +23,7 @@ use Rattle.hartley.proofs.seams.LongOutline.{Heavy, Room, long}
 pub record Local (sh : Plan) (p : ℕ) (length end : Side → ℕ) (own-level : ℕ) (finished : Side → Bool) : Type 0 where
   pub positive : 1 ≤ own-level
   -- a finished end is the top of an edge that climbs, not at a place that is apart; both are finished only while one is at p
-  pub peaked : (s : Side) → finished s ≡ true → Climbs sh s (end s) × (0 < length s) × (sh .list .apart (tip sh s (end s)) ≡ false)
+  pub peaked : (s : Side) → finished s ≡ true → Climbs sh s (end s) × (0 < length s) × (apart (sh .list) (tip sh s (end s)) ≡ false)
   pub ready : ((s : Side) → finished s ≡ true) → (s : Side) × (tip sh s (end s) ≡ p)
   -- a branch is empty with its tip below p, or has the edges of its level
   pub heavy : (s : Side) (k : ℕ) → own-level ≡ suc k → ((length s ≡ 0) × (height sh (tip sh s (end s)) < height sh p)) ⊎ (2 ^ k ≤ length s)
@@ -55,7 +56,7 @@ side-cases P Falling a b Falling = a
 side-cases P Falling a b Rising = b
 
 -- an end at p is finished
-local-finish : {sh : Plan} {p : ℕ} {length end : Side → ℕ} {own-level : ℕ} {finished : Side → Bool} → sh .list .apart p ≡ false → Local sh p length end own-level finished → (finished′ : Side → Bool)
+local-finish : {sh : Plan} {p : ℕ} {length end : Side → ℕ} {own-level : ℕ} {finished : Side → Bool} → apart (sh .list) p ≡ false → Local sh p length end own-level finished → (finished′ : Side → Bool)
     → ((s : Side) → finished′ s ≡ true → (Climbs sh s (end s) × (tip sh s (end s) ≡ p)) ⊎ (finished s ≡ true)) → Local sh p length end own-level finished′
 local-finish {sh} {own-level = own-level} o L finished′ a = record {
   positive = L .positive;
@@ -121,7 +122,7 @@ module _ {sh : Plan} (N : Lawful sh) {p m : ℕ} (E : Time sh p m) {G : Paths} {
       by (suc n) e = unfold size in ⊎-elim (λ a. absurd (omega (arith, L .peaked Rising (h Rising) .1))) (λ a. ⊎-elim (λ c. absurd (omega (arith, L .peaked Falling (h Falling) .1))) (λ c. omega arith) (L .heavy Falling n e)) (L .heavy Rising n e)
 
   -- two ends meet at p and are finished
-  pub finish-frame : sh .list .apart p ≡ false → (s : Side) (b q : ℕ) → Climbs sh s (G .end s (row b)) × (tip sh s (G .end s (row b)) ≡ p) → Climbs sh (otherSide s) (G .end (otherSide s) (row q)) × (tip sh (otherSide s) (G .end (otherSide s) (row q)) ≡ p)
+  pub finish-frame : apart (sh .list) p ≡ false → (s : Side) (b q : ℕ) → Climbs sh s (G .end s (row b)) × (tip sh s (G .end s (row b)) ≡ p) → Climbs sh (otherSide s) (G .end (otherSide s) (row q)) × (tip sh (otherSide s) (G .end (otherSide s) (row q)) ≡ p)
       → Frame sh p m G (finish s M (row b) (row q))
   finish-frame o s b q u v = record {
     chain = F .chain;

@@ -2,7 +2,7 @@
 -- falling side, and what holds at one holds at the other. A checked list has it all (`lawful`); nothing above this file looks at how edges join.
 use mathlib.Core.Path.{_≡_, ap, sym, _∙_}
 use mathlib.Core.Bool.{true, false, cond}
-use mathlib.Core.Logic.{inl, ⊎-elim}
+use mathlib.Core.Logic.{⊎-elim}
 use Prim.Native.Nat.{ℕ, _≤_, _<_}
 use native.Mathlib.Omega.{arith}
 use borrow.Author.Tests.{lt-ltb, le-ltb}
@@ -11,10 +11,10 @@ use Rattle.steps.specs.declared.Side.{Side}
 use Rattle.steps.specs.declared.Side.the-variants.{Rising, Falling}
 use Rattle.steps.specs.Rows.{otherSide}
 use Rattle.sheet.specs.Edges.{Drawing, topHeight}
-use Rattle.sheet.specs.Kinds.{Way, arriving, leaving, otherWay, below, above, endOf, comes}
-use Rattle.sheet.specs.Joining.{Follows}
+use Rattle.sheet.specs.Corners.{apart}
+use Rattle.sheet.specs.Kinds.{Way, arriving, leaving, otherWay, otherFrom, below, above, endOf, comes}
 use Rattle.sheet.proofs.Checked.{Checked, tops-rise, Joins, joins}
-use Rattle.sheet.proofs.Following.{own-side-joins}
+use Rattle.sheet.proofs.Following.{own-side-joins, other-side-joins}
 
 pub record Plan : Type 0 where
   pub list : Drawing
@@ -54,8 +54,8 @@ pub record Lawful (sh : Plan) : Type 0 where
   pub one-top : (s : Side) (e f : ℕ) → e < sh .list .edges → f < sh .list .edges → Climbs sh s e → Climbs sh s f → tip sh s e ≡ tip sh s f → e ≡ f
   pub one-bottom : (s : Side) (e f : ℕ) → e < sh .list .edges → f < sh .list .edges → Climbs sh s e → Climbs sh s f → tip sh (otherSide s) e ≡ tip sh (otherSide s) f → e ≡ f
   -- two that meet at their top join, and where the place is apart an edge that climbs to it goes on climbing
-  pub peak : (s : Side) (a b : ℕ) → a < sh .list .edges → b < sh .list .edges → Climbs sh s a → Climbs sh (otherSide s) b → tip sh (otherSide s) b ≡ tip sh s a → sh .list .apart (tip sh s a) ≡ false → Joined sh s a b
-  pub split : (s : Side) (a b : ℕ) → a < sh .list .edges → b < sh .list .edges → Climbs sh s a → sh .list .apart (tip sh s a) ≡ true → Joined sh s a b → Climbs sh s b
+  pub peak : (s : Side) (a b : ℕ) → a < sh .list .edges → b < sh .list .edges → Climbs sh s a → Climbs sh (otherSide s) b → tip sh (otherSide s) b ≡ tip sh s a → apart (sh .list) (tip sh s a) ≡ false → Joined sh s a b
+  pub split : (s : Side) (a b : ℕ) → a < sh .list .edges → b < sh .list .edges → Climbs sh s a → apart (sh .list) (tip sh s a) ≡ true → Joined sh s a b → Climbs sh s b
 
 -- edges joined on a side meet there, and each has one beyond it
 module _ {sh : Plan} (N : Lawful sh) where
@@ -96,11 +96,10 @@ module _ {sh : Drawing} (K : Checked sh) where
   J = joins K
 
   -- where the place is apart, who arrives from below is followed by one that leaves upwards
-  goes-up : (a : ℕ) → a < sh .edges → comes sh arriving a ≡ below → sh .apart (sh .head a) ≡ true → comes sh leaving (J .next a) ≡ above
+  goes-up : (a : ℕ) → a < sh .edges → comes sh arriving a ≡ below → apart sh (sh .head a) ≡ true → comes sh leaving (J .next a) ≡ above
   goes-up a l b o =
-      let v = K .parted a l o b in
-      let f : Follows sh a (v .0) = record { is-edge = l; next-is-edge = v .1; meet = v .2; rule = inl (rw (o, b) (v .3)) } in
-      ap (comes sh leaving) (sym (J .only a (v .0) f)) ∙ v .3
+      let v = other-side-joins (K .sound) (K .turning) a l o in
+      ap (comes sh leaving) (sym (J .only a (v .0) (v .1))) ∙ v .2 ∙ ap otherFrom b
 
   abbrev pl : Plan
   pl = planOf K
@@ -113,18 +112,18 @@ module _ {sh : Drawing} (K : Checked sh) where
   bottom-one Rising e f l m r t q = K .sound .single leaving e f l m q (from-above sh leaving e (omega arith) ∙ sym (from-above sh leaving f (omega arith)))
   bottom-one Falling e f l m r t q = K .sound .single arriving e f l m q (from-above sh arriving e (omega arith) ∙ sym (from-above sh arriving f (omega arith)))
 
-  peaks : (s : Side) (a b : ℕ) → a < sh .edges → b < sh .edges → Climbs pl s a → Climbs pl (otherSide s) b → tip pl (otherSide s) b ≡ tip pl s a → sh .apart (tip pl s a) ≡ false → Joined pl s a b
-  peaks Rising a b l m r t q o = sym (J .only a b (own-side-joins sh a b l m o q (from-below sh leaving b t ∙ sym (from-below sh arriving a r))))
-  peaks Falling a b l m r t q o = sym (J .only b a (own-side-joins sh b a m l (rw q o) (sym q) (from-below sh leaving a r ∙ sym (from-below sh arriving b t))))
+  peaks : (s : Side) (a b : ℕ) → a < sh .edges → b < sh .edges → Climbs pl s a → Climbs pl (otherSide s) b → tip pl (otherSide s) b ≡ tip pl s a → apart sh (tip pl s a) ≡ false → Joined pl s a b
+  peaks Rising a b l m r t q o = sym (J .only a b (own-side-joins (K .sound) (K .turning) a b l m o q (from-below sh leaving b t ∙ sym (from-below sh arriving a r))))
+  peaks Falling a b l m r t q o = sym (J .only b a (own-side-joins (K .sound) (K .turning) b a m l (rw q o) (sym q) (from-below sh leaving a r ∙ sym (from-below sh arriving b t))))
 
-  rises-on : (a : ℕ) → a < sh .edges → Climbs pl Rising a → sh .apart (sh .head a) ≡ true → Climbs pl Rising (J .next a)
+  rises-on : (a : ℕ) → a < sh .edges → Climbs pl Rising a → apart sh (sh .head a) ≡ true → Climbs pl Rising (J .next a)
   rises-on a l r o =
       let u = is-above sh leaving (J .next a) (goes-up a l (from-below sh arriving a r) o) in
       let i = J .follows a l .next-is-edge in
       let n : sh .height (sh .tail (J .next a)) ≡ sh .height (sh .head (J .next a)) → ⊥ = λ q. K .proper (J .next a) i (K .flat _ _ (K .one-film (J .next a) i) q) in
       omega (arith, u, n)
 
-  splits : (s : Side) (a b : ℕ) → a < sh .edges → b < sh .edges → Climbs pl s a → sh .apart (tip pl s a) ≡ true → Joined pl s a b → Climbs pl s b
+  splits : (s : Side) (a b : ℕ) → a < sh .edges → b < sh .edges → Climbs pl s a → apart sh (tip pl s a) ≡ true → Joined pl s a b → Climbs pl s b
   splits Rising a b l m r o j = rw j at (rises-on a l r o)
   splits Falling a b l m r o j = ⊎-elim (λ h. absurd (up h)) (λ h. omega (arith, h, n)) (lt-or-le (sh .height (sh .tail b)) (sh .height (sh .head b)))
     where

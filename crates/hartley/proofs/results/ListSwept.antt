@@ -10,6 +10,7 @@ use native.Mathlib.Omega.{arith}
 use borrow.Author.Tests.{lt-ltb, le-ltb}
 use Rattle.laws.proofs.Deciding.{lt-or-le, eq-or-ne}
 use Rattle.sheet.specs.Edges.{topHeight}
+use Rattle.sheet.specs.Corners.{apart}
 use Rattle.steps.specs.declared.Side.{Side}
 use Rattle.steps.specs.declared.Side.the-variants.{Rising, Falling}
 use Rattle.steps.specs.declared.End.{End}
@@ -180,9 +181,9 @@ module _ (A : Setting) where
       G : Paths
       G = Q .paths
 
-      parts : (t : Side) → height sh (bottom t (drawnEdge (A .sheet) i)) < height sh (top t (drawnEdge (A .sheet) i)) → drawnEdge (A .sheet) i .apart ≡ sh .list .apart (top t (drawnEdge (A .sheet) i))
-      parts Rising q = ap (λ u. sh .list .apart (cond u (sh .list .head i) (sh .list .tail i))) (lt-ltb _ _ q)
-      parts Falling q = ap (λ u. sh .list .apart (cond u (sh .list .head i) (sh .list .tail i))) (le-ltb (height sh (sh .list .tail i)) (height sh (sh .list .head i)) (omega (arith, q)))
+      parts : (t : Side) → height sh (bottom t (drawnEdge (A .sheet) i)) < height sh (top t (drawnEdge (A .sheet) i)) → drawnEdge (A .sheet) i .apart ≡ apart (sh .list) (top t (drawnEdge (A .sheet) i))
+      parts Rising q = ap (λ u. apart (sh .list) (cond u (sh .list .head i) (sh .list .tail i))) (lt-ltb _ _ q)
+      parts Falling q = ap (λ u. apart (sh .list) (cond u (sh .list .head i) (sh .list .tail i))) (le-ltb (height sh (sh .list .tail i)) (height sh (sh .list .head i)) (omega (arith, q)))
 
       l : 0 < size G (edge i)
       l = Q .waits i (omega arith) h

@@ -7,6 +7,7 @@ use Prim.Native.Nat.{ℕ, _+_, _-_, _*_, _≤_, _<_}
 use native.Mathlib.Omega.{arith}
 use Rattle.laws.specs.Counting.{count}
 use Rattle.laws.proofs.Deciding.{not-both}
+use Rattle.sheet.specs.Corners.{apart}
 use Rattle.steps.specs.declared.Side.{Side}
 use Rattle.steps.specs.declared.Side.the-variants.{Rising, Falling}
 use Rattle.steps.specs.declared.Found.{Found}
@@ -231,18 +232,18 @@ module _ (A : Setting) {p h : ℕ} (E : Time (plan A) p h) where
         pub alive : 0 < size H (row d)
         pub name-met : B₁ .name d ≡ q
         pub tip-met : HasTip (Y₂ d) (otherSide side) level (top side e)
-        pub together : sh .list .apart (top side e) ≡ false
+        pub together : apart (sh .list) (top side e) ≡ false
 
       pub data Met : Found → Type 0 where
         none : State sh p h Y₂ (journalOf a) B₁ H → Met Nothing
         some : {q d : ℕ} → MetRow q d → Met (At q)
 
-      met-none : ((q : ℕ) → sh .list .apart (top side e) ≡ false → HasTip (tableOf a q) (otherSide side) level (top side e) → ⊥) → Met Nothing
+      met-none : ((q : ℕ) → apart (sh .list) (top side e) ≡ false → HasTip (tableOf a q) (otherSide side) level (top side e) → ⊥) → Met Nothing
       met-none clear = none (rw a-journal (unmet N E (L .state₁) (L .pre₁) side goes c (L .slot) (λ b l o t.
           let w = a-tied .of-live b l (gone-x (row b) l) in
           clear (B₁ .name b) o (rw (w .1) (record { used = sym (ap (λ (v : Row ℕ). v .used) (w .1)) ∙ w .0; level-is = t .0; unfinished = t .1; tip-is = t .2 })))))
 
-      met-some : (q : ℕ) → (q < a .reach) × HasTip (tableOf a q) (otherSide side) level (top side e) → sh .list .apart (top side e) ≡ false → Met (At q)
+      met-some : (q : ℕ) → (q < a .reach) × HasTip (tableOf a q) (otherSide side) level (top side e) → apart (sh .list) (top side e) ≡ false → Met (At q)
       met-some q f o =
           let w = a-tied .to-live q (f .1 .used) in
           some (record { within = f .0; alive = w .1; name-met = w .3; tip-met = rw (row-is names₂ a-tied q (f .1 .used)) at (f .1); together = o })
@@ -251,7 +252,7 @@ module _ (A : Setting) {p h : ℕ} (E : Time (plan A) p h) where
       unfolding up.meeting up.pickMeeting
       meets f q = by (e .apart) (sym (P .parts side goes)) f q
         where
-          by : (o : Bool) → sh .list .apart (top side e) ≡ o → (f : Found) → up.pickMeeting o (up.find room a level (otherSide side) (top side e)) ≡ f → Met f
+          by : (o : Bool) → apart (sh .list) (top side e) ≡ o → (f : Found) → up.pickMeeting o (up.find room a level (otherSide side) (top side e)) ≡ f → Met f
           by true o Nothing q = met-none (λ i c t. not-both o c)
           by true o (At i) q = let z : _≡_ {A = ℕ} 0 1 = cc in absurd (omega arith)
           by false o Nothing q = met-none (λ i c t. find-none (A .sheet) (A .rows) (A .records) a level (otherSide side) (top side e) q i t)

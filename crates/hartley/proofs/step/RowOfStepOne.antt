@@ -7,6 +7,7 @@ use mathlib.Core.Logic.{inl, inr}
 use Prim.Native.Nat.{ℕ, suc, _<_}
 use native.Mathlib.Omega.{arith}
 use Rattle.laws.proofs.Deciding.{not-both}
+use Rattle.sheet.specs.Corners.{apart}
 use Rattle.steps.specs.declared.Side.{Side}
 use Rattle.steps.specs.declared.Side.the-variants.{Rising, Falling}
 use Rattle.steps.specs.Rows.{otherSide, on, Row, LevelEdge}
@@ -40,7 +41,7 @@ pub record Pre (sh : Plan) (p m : ℕ) (Y : Table) (B : Naming) (G : Paths) (lev
   pub flat : height sh (e .tail) ≡ height sh (e .head) → e .tail ≡ e .head
   pub is-row : e .tail ≡ e .head → (b : ℕ) × (x ≡ row b)
   pub named : nameOf B x ≡ nameAt level (e .name)
-  pub parts : (s : Side) → height sh (bottom s e) < height sh (top s e) → e .apart ≡ sh .list .apart (top s e)
+  pub parts : (s : Side) → height sh (bottom s e) < height sh (top s e) → e .apart ≡ apart (sh .list) (top s e)
 
 -- an edge that goes up has two ends
 pub ends-apart : (sh : Plan) (s : Side) (e : LevelEdge ℕ) → height sh (bottom s e) < height sh (top s e) → e .tail ≡ e .head → ⊥

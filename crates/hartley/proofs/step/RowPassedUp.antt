@@ -3,6 +3,7 @@ use mathlib.Core.Path.{_≡_, refl, ap, sym, _∙_}
 use mathlib.Core.List.{List}
 use Prim.Native.Nat.{ℕ, suc, _≤_, _<_}
 use native.Mathlib.Omega.{arith}
+use Rattle.sheet.specs.Corners.{apart}
 use Rattle.steps.specs.declared.Side.{Side}
 use Rattle.steps.specs.declared.Side.the-variants.{Rising, Falling}
 use Rattle.steps.specs.Rows.{on}
@@ -31,7 +32,7 @@ pre-row {sh} N {p} {m} E Y J B G c q I l W nm = record {
   flat = λ h. sym (ends Falling) ∙ N .flat _ _ (one-film N (I .frame .chain) x l) (ap (height sh) (ends Falling) ∙ h ∙ ap (height sh) (sym (ends Rising))) ∙ ends Rising;
   is-row = λ h. (c, refl);
   named = ap ofRow nm;
-  parts = λ s h. sym (ap (sh .list .apart) (sym (ends s)) ∙ L .peaked s (W s) .2);
+  parts = λ s h. sym (ap (apart (sh .list)) (sym (ends s)) ∙ L .peaked s (W s) .2);
 }
   where
     x : Owner

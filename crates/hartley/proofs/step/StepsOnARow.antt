@@ -8,6 +8,7 @@ use Prim.Native.Nat.{ℕ, suc, _+_, _*_, _≤_, _<_}
 use native.Mathlib.Omega.{arith}
 use lib.IntN.{ℤ}
 use Rattle.laws.proofs.Deciding.{lt-or-le, eq-or-ne, not-both}
+use Rattle.sheet.specs.Corners.{apart}
 use Rattle.steps.specs.declared.Side.{Side}
 use Rattle.steps.specs.declared.Side.the-variants.{Rising, Falling}
 use Rattle.steps.specs.Rows.{otherSide, on, Branch, Row, LevelEdge}
@@ -202,7 +203,7 @@ module _ {sh : Plan} (N : Lawful sh) {p m : ℕ} (E : Time sh p m) {Y : Table} {
   p-is = sym (U .top) ∙ P .end-is s
 
   -- step 4 with no row met
-  pub unmet : ((b : ℕ) → 0 < size H (row b) → sh .list .apart (top s e) ≡ false → (Y₂ b .level ≡ level) × (on (otherSide s) (Y₂ b .branch) .finished ≡ false) × (on (otherSide s) (Y₂ b .branch) .tip ≡ top s e) → ⊥) → State sh p m Y₂ J₂ B H
+  pub unmet : ((b : ℕ) → 0 < size H (row b) → apart (sh .list) (top s e) ≡ false → (Y₂ b .level ≡ level) × (on (otherSide s) (Y₂ b .branch) .finished ≡ false) × (on (otherSide s) (Y₂ b .branch) .tip ≡ top s e) → ⊥) → State sh p m Y₂ J₂ B H
   unmet none = record {
     frame = frame₂;
     seams = remark-seams agree₂ (attach-unmet N E (I .frame) (I .seams) s x c U other open-end up (R .place) no-match);
@@ -213,14 +214,14 @@ module _ {sh : Plan} (N : Lawful sh) {p m : ℕ} (E : Time sh p m) {Y : Table} {
     shuts = shuts₂;
   }
     where
-      no-match : (y : Owner) → 0 < size H y → sh .list .apart p ≡ false → marksOf Y .finished (otherSide s) y ≡ false → marksOf Y .own-level y ≡ suc (marksOf Y .own-level x) → tip sh (otherSide s) (H .end (otherSide s) y) ≡ tip sh s (H .end s z) → ⊥
+      no-match : (y : Owner) → 0 < size H y → apart (sh .list) p ≡ false → marksOf Y .finished (otherSide s) y ≡ false → marksOf Y .own-level y ≡ suc (marksOf Y .own-level x) → tip sh (otherSide s) (H .end (otherSide s) y) ≡ tip sh s (H .end s z) → ⊥
       no-match (edge a) l o f q t = not-both (I .frame .edge-finished a (otherSide s)) f
       no-match (row b) l o f q t =
           let v : suc (Y₂ b .level) ≡ suc level = unfold marksOf in (agree₂ .levels (row b) l ∙ q ∙ ap suc (P .level-is)) in
           none b l (rw (sym p-is) o) (omega arith, (unfold marksOf in (agree₂ .ends (row b) l (otherSide s) ∙ f)), told₂ b l .tip-is (otherSide s) ∙ t ∙ top-is)
 
   -- step 4 with a row met: both ends are finished
-  module _ (d : ℕ) (ld : 0 < size H (row d)) (W : HasTip (Y₂ d) (otherSide s) level (top s e)) (o : sh .list .apart (top s e) ≡ false) where
+  module _ (d : ℕ) (ld : 0 < size H (row d)) (W : HasTip (Y₂ d) (otherSide s) level (top s e)) (o : apart (sh .list) (top s e) ≡ false) where
     abbrev pub Y₃ : Table
     Y₃ = matched s Y₂ c d
 
