@@ -15,11 +15,11 @@ use Rattle.laws.proofs.Deciding.{not-both}
 use Rattle.laws.proofs.First.{first-holds, first-least}
 use Rattle.laws.proofs.Searching.{NoneBelow, found-first, found-none}
 use Rattle.sheet.specs.declared.Refusal.{Refusal}
-use Rattle.sheet.specs.declared.Refusal.the-variants.{NotWhole, TooMany, ListsDiffer, JournalShort, PastRange, FilmPastRange, EqualEnds, TopFalls, Repeated, Uneven}
+use Rattle.sheet.specs.declared.Refusal.the-variants.{NotWhole, TooMany, ListsDiffer, JournalShort, PastRange, FilmPastRange, EqualEnds, TopFalls, Repeated, Uneven, NotAlternating}
 use Rattle.sheet.specs.declared.Check.{Check}
 use Rattle.sheet.specs.declared.Check.the-variants.{Passed, Refused}
 use Rattle.sheet.specs.Edges.{edgesIn, drawingOf}
-use Rattle.sheet.specs.Answers.{Call, notWhole, tooMany, listsDiffer, journalShort, pastRange, filmPastRange, equalEnds, topFalls, edgeFault, faultOf, repeats, uneven, refuseIf, refuseFirst, checked}
+use Rattle.sheet.specs.Answers.{Call, notWhole, tooMany, listsDiffer, journalShort, pastRange, filmPastRange, equalEnds, topFalls, edgeFault, faultOf, repeats, uneven, notAlternating, refuseIf, refuseFirst, checked}
 use Rattle.checks.specs.Stages.{placesChecked}
 use Rattle.checks.proofs.Answering.{refuse-here, refuse-not}
 
@@ -36,6 +36,13 @@ pub record IsFirst (test : ℕ → Bool) (n e : ℕ) : Type 0 where
   pub holds : test e ≡ true
   pub before : NoneBelow test e
 
+-- none of 1 to 9 and 16
+pub record PlacesSound (c : Call) : Type 0 where
+  pub lengths : LengthsFit c
+  pub edges : NoneBelow (edgeFault (c .list)) (edgesIn (c .list))
+  pub once : NoneBelow (repeats (drawingOf (c .list))) (edgesIn (c .list))
+  pub level : NoneBelow (uneven (drawingOf (c .list))) (edgesIn (c .list))
+
 pub data Row (c : Call) : Check → Type 0 where
   row-1 : notWhole c ≡ true → Row c (Refused NotWhole)
   row-2 : notWhole c ≡ false → tooMany c ≡ true → Row c (Refused TooMany)
@@ -47,7 +54,8 @@ pub data Row (c : Call) : Check → Type 0 where
   row-7 : {e : ℕ} → LengthsFit c → IsFirst (edgeFault (c .list)) (edgesIn (c .list)) e → pastRange (c .list) e ≡ false → filmPastRange (c .list) e ≡ false → equalEnds (c .list) e ≡ false → topFalls (c .list) e ≡ true → Row c (Refused (TopFalls e))
   row-8 : {e : ℕ} → LengthsFit c → NoneBelow (edgeFault (c .list)) (edgesIn (c .list)) → IsFirst (repeats (drawingOf (c .list))) (edgesIn (c .list)) e → Row c (Refused (Repeated e))
   row-9 : {e : ℕ} → LengthsFit c → NoneBelow (edgeFault (c .list)) (edgesIn (c .list)) → NoneBelow (repeats (drawingOf (c .list))) (edgesIn (c .list)) → IsFirst (uneven (drawingOf (c .list))) (edgesIn (c .list)) e → Row c (Refused (Uneven e))
-  no-row : LengthsFit c → NoneBelow (edgeFault (c .list)) (edgesIn (c .list)) → NoneBelow (repeats (drawingOf (c .list))) (edgesIn (c .list)) → NoneBelow (uneven (drawingOf (c .list))) (edgesIn (c .list)) → Row c Passed
+  row-17 : {e : ℕ} → PlacesSound c → IsFirst (notAlternating (drawingOf (c .list))) (edgesIn (c .list)) e → Row c (Refused (NotAlternating e))
+  no-row : PlacesSound c → NoneBelow (notAlternating (drawingOf (c .list))) (edgesIn (c .list)) → Row c Passed
 
 -- a test decides between a refusal and the rest
 module _ (P : Check → Type 0) where
@@ -86,7 +94,9 @@ row c =
     tried-all (Row c) (edgeFault (c .list)) (edgesIn (c .list)) (faultOf (c .list)) (λ e f. fault-row c e l f) (λ f.
     tried-all (Row c) (repeats (drawingOf (c .list))) (edgesIn (c .list)) Repeated (λ e h. row-8 l f h) (λ r.
     tried-all (Row c) (uneven (drawingOf (c .list))) (edgesIn (c .list)) Uneven (λ e h. row-9 l f r h) (λ u.
-    no-row l f r u)))))))
+    let p : PlacesSound c = record { lengths = l; edges = f; once = r; level = u } in
+    tried-all (Row c) (notAlternating (drawingOf (c .list))) (edgesIn (c .list)) NotAlternating (λ e h. row-17 p h) (λ a.
+    no-row p a))))))))
 
 -- the refusal at the first of n edges, and none
 module _ (test : ℕ → Bool) (n : ℕ) (refusal : ℕ → Refusal) (rest : Check) where
@@ -118,7 +128,8 @@ given (row-6 l f p o q) = fault-given l f ∙ rw (p, o, q)
 given (row-7 l f p o q t) = fault-given l f ∙ rw (p, o, q)
 given (row-8 l f h) = places-given l f ∙ refused-at _ _ Repeated _ h
 given (row-9 l f r h) = places-given l f ∙ not-refused _ _ Repeated _ r ∙ refused-at _ _ Uneven _ h
-given (no-row l f r u) = places-given l f ∙ not-refused _ _ Repeated _ r ∙ not-refused _ _ Uneven _ u
+given (row-17 p h) = places-given (p .lengths) (p .edges) ∙ not-refused _ _ Repeated _ (p .once) ∙ not-refused _ _ Uneven _ (p .level) ∙ refused-at _ _ NotAlternating _ h
+given (no-row p a) = places-given (p .lengths) (p .edges) ∙ not-refused _ _ Repeated _ (p .once) ∙ not-refused _ _ Uneven _ (p .level) ∙ not-refused _ _ NotAlternating _ a
 
 pub exactly : (c : Call) (a : Check) → (checked c ≡ a) ↔ Row c a
 exactly c a = (λ q. subst (Row c) q (row c), given)

@@ -1,7 +1,7 @@
 -- `checked` by stages: the three of them in a row give its answer. Then each stage's answer where the code has compared the lengths, or has the first
--- edge of 5, 16, 6 or 7, of 8 and of 9; and what a stage that passes says of the list.
+-- edge of 5, 16, 6 or 7, of 8, of 9 and of 17; and what a stage that passes says of the list.
 use mathlib.Core.Path.{_≡_, refl, sym, ap, _∙_}
-use mathlib.Core.Bool.{Bool, true, false, not}
+use mathlib.Core.Bool.{Bool, true, false, not, cond}
 use mathlib.Core.List.{List}
 use Prim.Native.Nat.{ℕ, _*_, _/_, _%_, _≤_, _<_}
 use native.Mathlib.Omega.{arith}
@@ -13,15 +13,16 @@ use Rattle.laws.specs.Counting.{first}
 use Rattle.laws.proofs.First.{first-least, first-none}
 use Rattle.laws.proofs.Searching.{NoneBelow}
 use Rattle.sheet.specs.declared.Refusal.{Refusal}
-use Rattle.sheet.specs.declared.Refusal.the-variants.{NotWhole, TooMany, ListsDiffer, JournalShort, Repeated, Uneven}
+use Rattle.sheet.specs.declared.Refusal.the-variants.{NotWhole, TooMany, ListsDiffer, JournalShort, PastRange, FilmPastRange, EqualEnds, TopFalls, Repeated, Uneven, NotAlternating}
 use Rattle.sheet.specs.declared.Check.{Check}
 use Rattle.sheet.specs.declared.Check.the-variants.{Passed, Refused}
 use Rattle.sheet.specs.Edges.{edgesIn, drawingOf}
-use Rattle.sheet.specs.Answers.{Call, notWhole, tooMany, listsDiffer, journalShort, edgeFault, faultOf, repeats, uneven, refuseIf, refuseFirst, checked}
+use Rattle.sheet.specs.Answers.{Call, notWhole, tooMany, listsDiffer, journalShort, pastRange, filmPastRange, equalEnds, edgeFault, faultOf, repeats, uneven, notAlternating, refuseIf, refuseFirst, checked}
 use Rattle.checks.specs.declared.places.AtFault.{AtFault}
 use Rattle.checks.specs.Stages.{andThen, listChecked, lengthsChecked, edgesChecked, edgeFaultAlone, edgesAloneChecked, placesChecked}
 use Rattle.checks.specs.Faults.{EndsFit}
 use Rattle.checks.specs.Places.{firstAtFault}
+use Rattle.checks.specs.Corners.{cornersSeen}
 use Rattle.checks.proofs.EdgeFaults.{none-alone, none-of}
 use Rattle.sheet.specs.Amounts.{numbersPerEdge, journalNumbersPerEdge, mostEdges}
 
@@ -84,7 +85,7 @@ module _ (s : List ℤ) (polygons sequences turns journal : ℕ) (list : listChe
         unfolding lengthsChecked journalShort edgesIn
         on-lengths h = rw (list, lists-fit, le-ltb journal (journalNumbersPerEdge * (length s / numbersPerEdge)) h)
 
--- 8 and 9, by the least edges found
+-- 8, 9 and 17, by the least edges found
 module _ (s : List ℤ) {f : AtFault} (found : f ≡ firstAtFault s) where
   first-repeat : f .repeated ≡ first (repeats (drawingOf s)) (edgesIn s)
   unfolding firstAtFault
@@ -101,11 +102,59 @@ module _ (s : List ℤ) {f : AtFault} (found : f ≡ firstAtFault s) where
   module _ (none : edgesIn s ≤ f .repeated) where
     pub on-uneven : f .uneven < edgesIn s → Refused (Uneven (f .uneven)) ≡ placesChecked s
     unfolding placesChecked
-    on-uneven l = refuse-here _ _ _ first-uneven Uneven Passed l ∙ refuse-not _ _ _ first-repeat Repeated _ none
+    on-uneven l = refuse-here _ _ _ first-uneven Uneven _ l ∙ refuse-not _ _ _ first-repeat Repeated _ none
 
-    pub on-even : edgesIn s ≤ f .uneven → Passed ≡ placesChecked s
-    unfolding placesChecked
-    on-even l = refuse-not _ _ _ first-uneven Uneven Passed l ∙ refuse-not _ _ _ first-repeat Repeated _ none
+    module _ (even : edgesIn s ≤ f .uneven) where
+      pub none-repeats : NoneBelow (repeats (drawingOf s)) (edgesIn s)
+      none-repeats k l = first-least (repeats (drawingOf s)) (edgesIn s) k (omega (arith, none, first-repeat))
+
+      pub none-uneven : NoneBelow (uneven (drawingOf s)) (edgesIn s)
+      none-uneven k l = first-least (uneven (drawingOf s)) (edgesIn s) k (omega (arith, even, first-uneven))
+
+      module _ {t : ℕ} (first-tangle : t ≡ first (notAlternating (drawingOf s)) (edgesIn s)) where
+        pub on-tangle : t < edgesIn s → Refused (NotAlternating t) ≡ placesChecked s
+        unfolding placesChecked
+        on-tangle l = refuse-here _ _ _ first-tangle NotAlternating Passed l ∙ refuse-not _ _ _ first-uneven Uneven _ even ∙ refuse-not _ _ _ first-repeat Repeated _ none
+
+        pub on-none : edgesIn s ≤ t → Passed ≡ placesChecked s
+        unfolding placesChecked
+        on-none l = refuse-not _ _ _ first-tangle NotAlternating Passed l ∙ refuse-not _ _ _ first-uneven Uneven _ even ∙ refuse-not _ _ _ first-repeat Repeated _ none
+
+-- the first two stages give no refusal after which corners were looked at
+abbrev EndsBefore : Check → Type 0
+EndsBefore a = (r : Refusal) → a ≡ Refused r → cornersSeen (Refused r) ≡ false
+
+passed-before : EndsBefore Passed
+passed-before r q = let z : _≡_ {A = ℕ} 0 1 = cc in absurd (omega arith)
+
+refused-before : (r : Refusal) → cornersSeen (Refused r) ≡ false → EndsBefore (Refused r)
+refused-before r h r′ q = ap cornersSeen (sym q) ∙ h
+
+if-before : (t : Bool) (r : Refusal) {rest : Check} → cornersSeen (Refused r) ≡ false → EndsBefore rest → EndsBefore (refuseIf t r rest)
+if-before true r h b = refused-before r h
+if-before false r h b = b
+
+pub lengths-before : (c : Call) → EndsBefore (lengthsChecked c)
+unfolding lengthsChecked listChecked
+lengths-before c = by (not (eqb (length (c .list) % numbersPerEdge) 0)) (ltb mostEdges (edgesIn (c .list)))
+  where
+    by : (a b : Bool) → EndsBefore (andThen (refuseIf a NotWhole (refuseIf b TooMany Passed)) (refuseIf (listsDiffer c) ListsDiffer (refuseIf (journalShort c) JournalShort Passed)))
+    by true b = refused-before NotWhole refl
+    by false true = refused-before TooMany refl
+    by false false = if-before (listsDiffer c) ListsDiffer refl (if-before (journalShort c) JournalShort refl passed-before)
+
+pub edges-before : (s : List ℤ) → EndsBefore (edgesChecked s)
+unfolding edgesChecked
+edges-before s = if-before _ (faultOf s e) (by (pastRange s e) (filmPastRange s e) (equalEnds s e)) passed-before
+  where
+    e : ℕ
+    e = first (edgeFault s) (edgesIn s)
+
+    by : (a b d : Bool) → cornersSeen (Refused (cond a (PastRange e) (cond b (FilmPastRange e) (cond d (EqualEnds e) (TopFalls e))))) ≡ false
+    by true b d = refl
+    by false true d = refl
+    by false false true = refl
+    by false false false = refl
 
 -- what it takes to pass
 if-passed : (t : Bool) (r : Refusal) (rest : Check) → refuseIf t r rest ≡ Passed → (t ≡ false) × (rest ≡ Passed)

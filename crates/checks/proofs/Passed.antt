@@ -44,44 +44,6 @@ pub record AllPassed (c : Call) : Type 0 where
   pub films-in-range : (e : ℕ) → e < edgesIn (c .list) → isFilm (edgeAt (c .list) e .film) ≡ true
   pub sheet : Checked (drawingOf (c .list))
 
--- 8 is not given: no two edges of one kind at one place
-module _ (s : List ℤ) (once : NoneBelow (repeats (drawingOf s)) (edgesIn s)) where
-  earlier : (w : Way) (e f : ℕ) → e < f → f < edgesIn s → endOf (drawingOf s) w e ≡ endOf (drawingOf s) w f → comes (drawingOf s) w e ≡ comes (drawingOf s) w f → ⊥
-  unfolding repeats sameKind
-  earlier w e f l h p q = by w p q (neither-true _ _ (none-below _ f (once f h) e l))
-    where
-      alike : (w : Way) → endOf (drawingOf s) w e ≡ endOf (drawingOf s) w f → comes (drawingOf s) w e ≡ comes (drawingOf s) w f → sameKind (drawingOf s) w f e ≡ true
-      alike w p q = rw (eq-eqb (endOf (drawingOf s) w f) (endOf (drawingOf s) w e) (sym p), q) (self (comes (drawingOf s) w f))
-        where
-          self : (a : From) → sameFrom a a ≡ true
-          self below = refl
-          self above = refl
-
-      by : (w : Way) → endOf (drawingOf s) w e ≡ endOf (drawingOf s) w f → comes (drawingOf s) w e ≡ comes (drawingOf s) w f → (sameKind (drawingOf s) arriving f e ≡ false) × (sameKind (drawingOf s) leaving f e ≡ false) → ⊥
-      by arriving p q n = not-both (alike arriving p q) (n .0)
-      by leaving p q n = not-both (alike leaving p q) (n .1)
-
-  single : (w : Way) (e f : ℕ) → e < edgesIn s → f < edgesIn s → endOf (drawingOf s) w e ≡ endOf (drawingOf s) w f → comes (drawingOf s) w e ≡ comes (drawingOf s) w f → e ≡ f
-  single w e f el fl p q = ⊎-elim (λ l. absurd (earlier w e f l fl p q)) (λ l. ⊎-elim (λ m. absurd (earlier w f e m el (sym p) (sym q))) (λ m. omega arith) (lt-or-le f e)) (lt-or-le e f)
-
--- 9 is not given: at a place with an edge as many arrive as leave, and where there is none both are 0
-module _ (s : List ℤ) (level : NoneBelow (uneven (drawingOf s)) (edgesIn s)) (p : ℕ) where
-  differ-not : differ (drawingOf s) p ≡ false → numberAt (drawingOf s) arriving p ≡ numberAt (drawingOf s) leaving p
-  unfolding differ
-  differ-not h = eqb-true _ _ (not-false _ h)
-
-  at-end : (e : ℕ) → e < edgesIn s → (w : Way) → endOf (drawingOf s) w e ≡ p → differ (drawingOf s) p ≡ false
-  unfolding uneven
-  at-end e l arriving q = ap (differ (drawingOf s)) (sym q) ∙ neither-true (differ (drawingOf s) (drawingOf s .tail e)) _ (level e l) .1
-  at-end e l leaving q = ap (differ (drawingOf s)) (sym q) ∙ neither-true _ (differ (drawingOf s) (drawingOf s .head e)) (level e l) .0
-
-  nobody : differ (drawingOf s) p ≡ true → (w : Way) → numberAt (drawingOf s) w p ≡ 0
-  unfolding numberAt drawingOf
-  nobody h w = count-none _ (edgesIn s) (λ e l. ne-eqb _ _ (λ q. not-both h (at-end e l w q)))
-
-  even : numberAt (drawingOf s) arriving p ≡ numberAt (drawingOf s) leaving p
-  even = ⊎-elim (λ h. nobody h arriving ∙ sym (nobody h leaving)) differ-not (true-or-false (differ (drawingOf s) p))
-
 -- 5, 16, 6 and 7 are not given
 module _ {s : List ℤ} (E : EndsFit s (edgesIn s)) (none : NoneBelow (edgeFault s) (edgesIn s)) where
   proper : (e : ℕ) → e < edgesIn s → drawingOf s .tail e ≡ drawingOf s .head e → ⊥
@@ -140,8 +102,9 @@ module _ (c : Call) (l : LengthsFit c) where
   long = ltb-false _ _ (l .long)
 
 all-passed : (c : Call) → Row c Passed → AllPassed c
-all-passed c (no-row l f r u) =
-    let E = ends-fit (c .list) (few c l) f in
+all-passed c (no-row p a) =
+    let l = p .lengths in
+    let E = ends-fit (c .list) (few c l) (p .edges) in
     record {
       whole = whole c l;
       few = few c l;
@@ -152,7 +115,7 @@ all-passed c (no-row l f r u) =
       tails-in-range = tail-in E;
       heads-in-range = head-in E;
       films-in-range = film-in E;
-      sheet = sheet-checked (c .list) (few c l) f r u;
+      sheet = sheet-checked (c .list) (few c l) p a;
     }
 
 pub passed : (c : Call) → checked c ≡ Passed → AllPassed c

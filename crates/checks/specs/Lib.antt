@@ -3,3 +3,4 @@ pub mod Stages
 pub mod Faults
 pub mod Ends
 pub mod Places
+pub mod Corners

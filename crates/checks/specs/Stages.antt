@@ -6,11 +6,11 @@ use Prim.Native.Nat.{ℕ, _%_}
 use lib.Dec.{eqb, ltb}
 use lib.IntN.{ℤ}
 use lib.ListN.{length}
-use Rattle.sheet.specs.declared.Refusal.the-variants.{NotWhole, TooMany, ListsDiffer, JournalShort, Repeated, Uneven}
+use Rattle.sheet.specs.declared.Refusal.the-variants.{NotWhole, TooMany, ListsDiffer, JournalShort, Repeated, Uneven, NotAlternating}
 use Rattle.sheet.specs.declared.Check.{Check}
 use Rattle.sheet.specs.declared.Check.the-variants.{Passed, Refused}
 use Rattle.sheet.specs.Edges.{edgesIn, drawingOf}
-use Rattle.sheet.specs.Answers.{Call, listsDiffer, journalShort, pastRange, filmPastRange, equalEnds, edgeFault, faultOf, repeats, uneven, refuseIf, refuseFirst}
+use Rattle.sheet.specs.Answers.{Call, listsDiffer, journalShort, pastRange, filmPastRange, equalEnds, edgeFault, faultOf, repeats, uneven, notAlternating, refuseIf, refuseFirst}
 use Rattle.sheet.specs.Amounts.{numbersPerEdge, mostEdges}
 
 -- what a stage answers, and where it passes what the next one does
@@ -38,6 +38,6 @@ edgesChecked s = refuseFirst (edgeFault s) (edgesIn s) (faultOf s) Passed
 unfoldable pub edgesAloneChecked : List ℤ → Check
 edgesAloneChecked s = refuseFirst (edgeFaultAlone s) (edgesIn s) (faultOf s) Passed
 
--- 8 over the whole list, then 9
+-- 8 over the whole list, then 9, then 17
 unfoldable pub placesChecked : List ℤ → Check
-placesChecked s = refuseFirst (repeats (drawingOf s)) (edgesIn s) Repeated (refuseFirst (uneven (drawingOf s)) (edgesIn s) Uneven Passed)
+placesChecked s = refuseFirst (repeats (drawingOf s)) (edgesIn s) Repeated (refuseFirst (uneven (drawingOf s)) (edgesIn s) Uneven (refuseFirst (notAlternating (drawingOf s)) (edgesIn s) NotAlternating Passed))

@@ -1,5 +1,6 @@
-// The checks before the sweeps: refusals 1 to 9 and 16, in the paper's order. What the answer is, `checked` of the crate sheet says.
-// They come in three stages, each of which can be called alone: the lengths (1 to 4), the edges one by one (5, 16, 6 and 7), the places (8 and 9).
+// The checks before the sweeps: refusals 1 to 9, 16 and 17, in the papers' order. What the answer is, `checked` of the crate sheet says.
+// They come in three stages, each of which can be called alone: the lengths (1 to 4), the edges one by one (5, 16, 6 and 7), the places (8, 9 and 17).
+mod corners;
 mod ends;
 pub mod faults;
 pub mod lengths;
@@ -9,18 +10,22 @@ use sheet::Check;
 use sheet::Edge;
 ghost use mathlib.Core.Path.{_≡_};
 ghost use Rattle.sheet.specs.Answers.{checked};
+ghost use Rattle.checks.specs.Corners.{noMarks, MarksAfter};
 
 // The most edges that a list holds.
 const MOST_EDGES: usize = Edge::MOST;
 
-// What the ten checks answer. Only the lengths of the other lists matter here, and nothing is written.
+// What the eleven checks answer. Only the lengths of the other lists matter here. Nothing is written but the marks of edges whose tops are apart.
 pub fn check(
     edges: &[i32],
     polygons: usize,
     sequences: usize,
     turns: usize,
     journal: usize,
+    apart: &mut [u8],
 ) -> Check
+    requires { ⌜ now apart ≡ noMarks ⌝ }
+    ensures { λ r. ⌜ MarksAfter (now (edges .entry)) r (now (apart .exit)) ⌝ }
     ensures { λ r. ⌜ r ≡ checked (record { list = now (edges .entry); polygons = polygons; sequences = sequences; turns = turns; journal = journal }) ⌝ }
 {
     if let Check::Refused(refusal) = lengths::check(edges, polygons, sequences, turns, journal) {
@@ -29,5 +34,5 @@ pub fn check(
     if let Check::Refused(refusal) = faults::check(edges) {
         return Check::Refused(refusal);
     }
-    places::check(edges)
+    places::check(edges, apart)
 }

@@ -1,21 +1,24 @@
 // 8 and 9: what is wrong at a place. One walk over all ends in order visits the places in rising order, each once. What is done at a place is
-// `at_place`, and what the walk carries is `AtFault`: whoever wants something else of the places changes these two.
+// `at_place`, and what the walk carries is `AtFault`: whoever wants something else of the places changes these two. 17, which asks for lists that pass 8 and
+// 9, walks over the same ends in order.
 use crate::MOST_EDGES;
+use crate::corners;
 use crate::ends;
 use sheet::Check;
 use sheet::Edge;
 use sheet::Refusal;
 ghost use mathlib.Core.Path.{_≡_};
 ghost use mathlib.Core.Bool.{cond};
-ghost use Prim.Native.Nat.{_+_, _/_, _%_, _<_, _≤_};
+ghost use Prim.Native.Nat.{_+_, _*_, _/_, _%_, _<_, _≤_};
 ghost use lib.Dec.{eqb};
 ghost use lib.ListN.{length};
 ghost use Rattle.laws.specs.Counting.{count};
 ghost use Rattle.sheet.specs.Edges.{edgesIn};
 ghost use Rattle.checks.specs.Faults.{EndsFit};
 ghost use Rattle.checks.specs.Stages.{placesChecked};
-ghost use Rattle.checks.specs.Ends.{edgeIn, arrivesIn};
+ghost use Rattle.checks.specs.Ends.{edgeIn, arrivesIn, Ordered};
 ghost use Rattle.checks.specs.Places.{firstAtFault, Least, repeatsIn, anyEnd, unevenAt, Walks, Visited, AtPlace, FoundSoFar};
+ghost use Rattle.checks.specs.Corners.{noMarks, MarksAfter};
 
 // Each end of a list, two for an edge.
 const MOST_ENDS: usize = 2 * MOST_EDGES;
@@ -28,7 +31,7 @@ pub struct AtFault {
 }
 
 // Where the ends stop that have the place of the end at from.
-fn place_end(words: &[u64], from: usize, m: usize) -> usize
+pub fn place_end(words: &[u64], from: usize, m: usize) -> usize
     requires { ⌜ Walks (now words) m × Visited (now words) m from × (from < m) ⌝ }
     ensures { λ r. ⌜ AtPlace (now (words .entry)) m from r ⌝ }
 {
@@ -82,7 +85,7 @@ fn arriving(words: &[u64], from: usize, to: usize) -> usize
 }
 
 // The least edge with an end at a place.
-fn least_edge(words: &[u64], from: usize, to: usize, none: usize) -> usize
+pub fn least_edge(words: &[u64], from: usize, to: usize, none: usize) -> usize
     requires { ⌜ (from ≤ to) × (to ≤ length (now words)) ⌝ }
     ensures { λ r. ⌜ Least anyEnd (edgeIn (now (words .entry))) none from to r ⌝ }
 {
@@ -138,30 +141,34 @@ fn walk(words: &[u64], m: usize, none: usize) -> AtFault
     found
 }
 
-// The first edge with 8 and the first with 9. The words take 64 KB of stack, 8,192 of 8 bytes, and while they are sorted the sort's room takes 32 KB
-// more.
-pub fn first_at_fault(edges: &[i32]) -> AtFault
-    requires { ⌜ EndsFit (now edges) (edgesIn (now edges)) ⌝ }
+// The words of all ends in order, the first edge with 8 and the first with 9.
+fn first_at_fault(edges: &[i32], n: usize, words: &mut [u64]) -> AtFault
+    requires { ⌜ EndsFit (now edges) n × (2 * n ≤ length (now words)) ⌝ }
     ensures { λ r. ⌜ r ≡ firstAtFault (now (edges .entry)) ⌝ }
+    ensures { λ _. ⌜ Ordered (now (edges .entry)) (now (words .exit)) n × Walks (now (words .exit)) (2 * n) ⌝ }
+{
+    ends::order(edges, words, n);
+    walk(words, 2 * n, n)
+}
+
+// 8 over the whole list, then 9, then 17, of a list that passes 2, 5, 16 and 6. Leaves a mark for each edge whose top is apart. The words take 64 KB of stack,
+// 8,192 of 8 bytes, and while they are sorted the sort's room takes 32 KB more.
+pub fn check(edges: &[i32], apart: &mut [u8]) -> Check
+    requires { ⌜ EndsFit (now edges) (edgesIn (now edges)) × (now apart ≡ noMarks) ⌝ }
+    ensures { λ r. ⌜ (r ≡ placesChecked (now (edges .entry))) × MarksAfter (now (edges .entry)) r (now (apart .exit)) ⌝ }
 {
     let n = edges.len() / Edge::NUMBERS;
     let mut words = [0u64; MOST_ENDS];
-    ends::order(edges, &mut words, n);
-    walk(&words, 2 * n, n)
-}
-
-// 8 over the whole list, then 9, of a list that passes 2, 5, 16 and 6.
-pub fn check(edges: &[i32]) -> Check
-    requires { ⌜ EndsFit (now edges) (edgesIn (now edges)) ⌝ }
-    ensures { λ r. ⌜ r ≡ placesChecked (now (edges .entry)) ⌝ }
-{
-    let n = edges.len() / Edge::NUMBERS;
-    let found = first_at_fault(edges);
+    let found = first_at_fault(edges, n, &mut words);
     if found.repeated < n {
         return Check::Refused(Refusal::Repeated(found.repeated as u32));
     }
     if found.uneven < n {
         return Check::Refused(Refusal::Uneven(found.uneven as u32));
+    }
+    let tangled = corners::walk(edges, n, &words, apart);
+    if tangled < n {
+        return Check::Refused(Refusal::NotAlternating(tangled as u32));
     }
     Check::Passed
 }
