@@ -21,3 +21,6 @@ pub mod Sets
 pub mod Zeros
 pub mod Listing
 pub mod Bits
+pub mod Integers
+pub mod Ring
+pub mod Magnitudes

@@ -1,0 +1,9 @@
+-- The laws of corners that other crates may cite.
+pub mod AllSigns
+pub mod Signs
+pub mod Sides
+pub mod Weighing
+pub mod SidesOfPoints
+pub mod Directions
+pub mod Sizes
+pub mod SameTurn

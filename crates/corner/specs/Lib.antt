@@ -1,0 +1,2 @@
+-- What two turns the same way are.
+pub mod Turns
