@@ -1,4 +1,4 @@
--- 8 and 9 by the words of the ends in order. An end has the key of the end before where an earlier edge is of its kind at its place; and at a place
+-- 8, 9 and 17 by the words of the ends in order. An end has the key of the end before where an earlier edge is of its kind at its place; and at a place
 -- as many ends arrive as edges do. So the least edges that the walk finds are the first edges that the answer sheet asks for.
 use mathlib.Core.Path.{_≡_, refl, sym, ap, _∙_}
 use mathlib.Core.Bool.{Bool, true, not, _&&_, _||_}
@@ -16,13 +16,14 @@ use Rattle.laws.proofs.Tests.{not-true, or-true}
 use Rattle.laws.proofs.First.{some-below-true, below-some}
 use Rattle.laws.proofs.Pigeonhole.{pigeon}
 use Rattle.sheet.specs.Edges.{edgesIn, drawingOf}
-use Rattle.sheet.specs.Kinds.{Way, arriving, leaving, From, below, above, endOf, comes, numberAt}
-use Rattle.sheet.specs.Answers.{sameFrom, sameKind, repeats, differ, uneven}
+use Rattle.sheet.specs.Kinds.{Way, arriving, leaving, From, below, above, sameFrom, endOf, comes, numberAt}
+use Rattle.sheet.specs.Answers.{sameKind, repeats, differ, uneven, tangled, notAlternating}
 use Rattle.checks.specs.declared.places.AtFault.{AtFault}
 use Rattle.checks.specs.Faults.{EndsFit}
 use Rattle.checks.specs.Ends.{wayNumber, fromNumber, wordOf, keyIn, placeIn, edgeIn, arrivesIn, Ordered}
-use Rattle.checks.specs.Places.{Walks, repeatsIn, arrivesAt, leavesAt, unevenAt, FoundSoFar, firstAtFault}
-use Rattle.checks.proofs.LeastEdge.{least-first}
+use Rattle.checks.specs.Places.{Walks, repeatsIn, unevenAt, Least, FoundSoFar, firstAtFault}
+use Rattle.checks.specs.Corners.{tangledIn}
+use Rattle.checks.proofs.LeastEdge.{least-first, least-same}
 use Rattle.checks.proofs.Words.{from-small, way-small, word-edge, word-key, word-place, word-way}
 
 -- an end's edge goes this way
@@ -65,10 +66,9 @@ module _ (s : List ℤ) (e : ℕ) where
   kinds-either arriving f h = rw h
   kinds-either leaving f h = rw h (or-true (sameKind (drawingOf s) arriving e f))
 
-  ends-either : (w : Way) → differ (drawingOf s) (endOf (drawingOf s) w e) ≡ true → uneven (drawingOf s) e ≡ true
-  unfolding uneven
-  ends-either arriving h = rw h (or-true (differ (drawingOf s) (drawingOf s .tail e)))
-  ends-either leaving h = rw h
+  ends-either : (test : ℕ → Bool) (w : Way) → test (endOf (drawingOf s) w e) ≡ true → (test (drawingOf s .tail e) || test (drawingOf s .head e)) ≡ true
+  ends-either test arriving h = rw h (or-true (test (drawingOf s .tail e)))
+  ends-either test leaving h = rw h
 
 module _ {s : List ℤ} {words : List ℕ} {n : ℕ} (E : EndsFit s n) (O : Ordered s words n) where
   small : {e : ℕ} → e < n → e < 4096
@@ -80,16 +80,15 @@ module _ {s : List ℤ} {words : List ℕ} {n : ℕ} (E : EndsFit s n) (O : Orde
   pub walks : 2 * n ≤ length words → Walks words (2 * n)
   walks room = record { room = room; few = omega (arith, E .few); rising = rises }
 
-  one-spot : (i j : ℕ) → i < 2 * n → j < 2 * n → getD words i 0 ≡ getD words j 0 → i ≡ j
+  pub one-spot : (i j : ℕ) → i < 2 * n → j < 2 * n → getD words i 0 ≡ getD words j 0 → i ≡ j
   one-spot i j il jl q = ⊎-elim (λ h. absurd (omega (arith, O .rising i j h jl))) (λ h. ⊎-elim (λ g. absurd (omega (arith, O .rising j i g il))) (λ g. omega arith) (lt-or-le j i)) (lt-or-le i j)
 
   -- 9: as many ends go a way at a place as edges do
   module _ (w : Way) (p : ℕ) where
-    at-end : ℕ → Bool
+    abbrev pub at-end : ℕ → Bool
     at-end k = eqb (placeIn words k) p && goesIn w words k
 
     no-more : count (λ e. eqb (endOf (drawingOf s) w e) p) n ≤ count at-end (2 * n)
-    unfolding at-end
     no-more = pigeon (λ e k. (e < n) × (getD words k 0 ≡ wordOf s w e)) own _ _ n (2 * n) hole
       where
         own : (i j k : ℕ) → (i < n) × (getD words k 0 ≡ wordOf s w i) → (j < n) × (getD words k 0 ≡ wordOf s w j) → i ≡ j
@@ -103,7 +102,6 @@ module _ {s : List ℤ} {words : List ℕ} {n : ℕ} (E : EndsFit s n) (O : Orde
             (v .0, v .1, both (eq-eqb _ _ place) (goes-told w words (v .0) way), (l, v .2))
 
     no-fewer : count at-end (2 * n) ≤ count (λ e. eqb (endOf (drawingOf s) w e) p) n
-    unfolding at-end
     no-fewer = pigeon (λ k e. (k < 2 * n) × (getD words k 0 ≡ wordOf s w e)) own _ _ (2 * n) n hole
       where
         own : (i j e : ℕ) → (i < 2 * n) × (getD words i 0 ≡ wordOf s w e) → (j < 2 * n) × (getD words j 0 ≡ wordOf s w e) → i ≡ j
@@ -118,34 +116,43 @@ module _ {s : List ℤ} {words : List ℕ} {n : ℕ} (E : EndsFit s n) (O : Orde
             let place : endOf (drawingOf s) w (h .edge) ≡ p = sym (word-place s w (h .edge) (small (h .is-edge))) ∙ ap (λ (x : ℕ). x / 16384) (sym told) ∙ eqb-true _ _ (b .0) in
             (h .edge, h .is-edge, eq-eqb (endOf (drawingOf s) w (h .edge)) p place, (l, told))
 
-    number-told : numberAt (drawingOf s) w p ≡ count at-end (2 * n)
+    pub number-told : numberAt (drawingOf s) w p ≡ count at-end (2 * n)
     unfolding numberAt drawingOf
     number-told = ap (count (λ e. eqb (endOf (drawingOf s) w e) p)) (sym (E .all)) ∙ omega (arith, no-more, no-fewer)
 
-  uneven-told : (w : Way) (e k : ℕ) → e < n → getD words k 0 ≡ wordOf s w e → unevenAt words (2 * n) k ≡ differ (drawingOf s) (endOf (drawingOf s) w e)
-  unfolding unevenAt differ at-end
-  uneven-told w e k l q =
-      let place : placeIn words k ≡ endOf (drawingOf s) w e = ap (λ (x : ℕ). x / 16384) q ∙ word-place s w e (small l) in
-      ap (λ (x : ℕ). not (eqb (count (arrivesAt words x) (2 * n)) (count (leavesAt words x) (2 * n)))) place
-      ∙ sym (rw (number-told arriving (endOf (drawingOf s) w e), number-told leaving (endOf (drawingOf s) w e)))
+  uneven-told : (k : ℕ) → unevenAt words (2 * n) k ≡ differ (drawingOf s) (placeIn words k)
+  unfolding unevenAt differ
+  uneven-told k = sym (rw (number-told arriving (placeIn words k), number-told leaving (placeIn words k)))
 
-  edge-told : (w : Way) (e k : ℕ) → e < n → getD words k 0 ≡ wordOf s w e → edgeIn words k ≡ e
+  pub place-told : (w : Way) (e k : ℕ) → e < n → getD words k 0 ≡ wordOf s w e → placeIn words k ≡ endOf (drawingOf s) w e
+  place-told w e k l q = ap (λ (x : ℕ). x / 16384) q ∙ word-place s w e (small l)
+
+  pub edge-told : (w : Way) (e k : ℕ) → e < n → getD words k 0 ≡ wordOf s w e → edgeIn words k ≡ e
   edge-told w e k l q = ap (λ (x : ℕ). x % 4096) q ∙ word-edge s w e (small l)
 
-  uneven-to : (k : ℕ) → k < 2 * n → unevenAt words (2 * n) k ≡ true → uneven (drawingOf s) (edgeIn words k) ≡ true
-  uneven-to k l t =
-      let h = O .held k l in
-      ap (uneven (drawingOf s)) (edge-told (h .way) (h .edge) k (h .is-edge) (h .told)) ∙ ends-either s (h .edge) (h .way) (sym (uneven-told (h .way) (h .edge) k (h .is-edge) (h .told)) ∙ t)
+  -- a test of places: the ends whose places pass it are those of the edges with an end at such a place
+  module _ (test : ℕ → Bool) where
+    atEnd : ℕ → Bool
+    atEnd e = test (drawingOf s .tail e) || test (drawingOf s .head e)
 
-  uneven-from : (e : ℕ) → e < n → uneven (drawingOf s) e ≡ true → (k : ℕ) × (k < 2 * n) × (unevenAt words (2 * n) k ≡ true) × (edgeIn words k ≡ e)
-  unfolding uneven
-  uneven-from e l t = ⊎-elim (λ h. end leaving h) (λ h. end arriving h) (one-true (differ (drawingOf s) (drawingOf s .tail e)) _ t)
-    where
-      end : (w : Way) → differ (drawingOf s) (endOf (drawingOf s) w e) ≡ true → (k : ℕ) × (k < 2 * n) × (unevenAt words (2 * n) k ≡ true) × (edgeIn words k ≡ e)
-      end w h = let v = O .stands w e l in (v .0, v .1, uneven-told w e (v .0) l (v .2) ∙ h, edge-told w e (v .0) l (v .2))
+    ends-to : (k : ℕ) → k < 2 * n → test (placeIn words k) ≡ true → atEnd (edgeIn words k) ≡ true
+    unfolding atEnd
+    ends-to k l t =
+        let h = O .held k l in
+        ap atEnd (edge-told (h .way) (h .edge) k (h .is-edge) (h .told)) ∙ ends-either s (h .edge) test (h .way) (ap test (sym (place-told (h .way) (h .edge) k (h .is-edge) (h .told))) ∙ t)
+
+    ends-from : (e : ℕ) → e < n → atEnd e ≡ true → (k : ℕ) × (k < 2 * n) × (test (placeIn words k) ≡ true) × (edgeIn words k ≡ e)
+    unfolding atEnd
+    ends-from e l t = ⊎-elim (λ h. end leaving h) (λ h. end arriving h) (one-true (test (drawingOf s .tail e)) _ t)
+      where
+        end : (w : Way) → test (endOf (drawingOf s) w e) ≡ true → (k : ℕ) × (k < 2 * n) × (test (placeIn words k) ≡ true) × (edgeIn words k ≡ e)
+        end w h = let v = O .stands w e l in (v .0, v .1, ap test (place-told w e (v .0) l (v .2)) ∙ h, edge-told w e (v .0) l (v .2))
+
+    first-at-end : {r : ℕ} → Least (λ k. test (placeIn words k)) (edgeIn words) n 0 (2 * n) r → r ≡ first atEnd (edgesIn s)
+    first-at-end least = least-first atEnd ends-to ends-from least ∙ ap (first atEnd) (E .all)
 
   -- 8: ends of one key are of edges of one kind at one place, and of no others
-  key-way : (v w : Way) (f e : ℕ) → f < n → e < n → wordOf s v f / 4096 ≡ wordOf s w e / 4096 → v ≡ w
+  pub key-way : (v w : Way) (f e : ℕ) → f < n → e < n → wordOf s v f / 4096 ≡ wordOf s w e / 4096 → v ≡ w
   key-way v w f e fl el q = one-way v w (omega (arith, sym (word-key s v f (small fl)) ∙ q ∙ word-key s w e (small el), way-small v, way-small w, from-small (comes (drawingOf s) v f), from-small (comes (drawingOf s) w e)))
 
   module _ (w : Way) (e f : ℕ) (el : e < n) (fl : f < n) where
@@ -192,11 +199,16 @@ module _ {s : List ℤ} {words : List ℕ} {n : ℕ} (E : EndsFit s n) (O : Orde
           (i .0, i .1, both (lt-ltb 0 (i .0) (omega arith)) (eq-eqb (keyIn words (i .0 - 1)) (keyIn words (i .0)) same), edge-told w e (i .0) l (i .2))
 
   pub found-first : {f : AtFault} → FoundSoFar words (2 * n) n (2 * n) f → f ≡ firstAtFault s
-  unfolding firstAtFault
+  unfolding firstAtFault uneven atEnd
   found-first {f} F = λ i. record { repeated = repeated i; uneven = uneven-edge i }
     where
       repeated : f .repeated ≡ first (repeats (drawingOf s)) (edgesIn s)
       repeated = least-first (repeats (drawingOf s)) repeats-to repeats-from (F .repeated) ∙ ap (first (repeats (drawingOf s))) (E .all)
 
       uneven-edge : f .uneven ≡ first (uneven (drawingOf s)) (edgesIn s)
-      uneven-edge = least-first (uneven (drawingOf s)) uneven-to uneven-from (F .uneven) ∙ ap (first (uneven (drawingOf s))) (E .all)
+      uneven-edge = first-at-end (differ (drawingOf s)) (least-same _ (λ k l h. sym (uneven-told k)) (F .uneven))
+
+  -- 17: the least edge with an end at such a place
+  pub tangle-first : {r : ℕ} → Least (tangledIn s words) (edgeIn words) n 0 (2 * n) r → r ≡ first (notAlternating (drawingOf s)) (edgesIn s)
+  unfolding tangledIn notAlternating atEnd
+  tangle-first least = first-at-end (tangled (drawingOf s)) least

@@ -4,6 +4,9 @@ pub mod LeastEdge
 pub mod Words
 pub mod Visiting
 pub mod ByWords
+pub mod AtCorners
+pub mod CornersMarked
 pub mod Answering
 pub mod AnswerSheet
+pub mod SoundList
 pub mod Passed

@@ -1,5 +1,5 @@
--- What every later step goes by: a call that passes the ten checks has its lists of the right lengths, every end and film in the range, and a checked
--- sheet. Each field of `Checked` is one of 5 to 9 or 16 that was not given; a place is told by its height and its film, and no place is apart.
+-- What every later step goes by: a call that passes the eleven checks has its lists of the right lengths, every end and film in the range, and a checked
+-- sheet. Each field of `Checked` is one of 5 to 9, 16 or 17 that was not given; a place is told by its height and its film.
 use mathlib.Core.Path.{_≡_, refl, sym, ap, _∙_}
 use mathlib.Core.Bool.{true, false}
 use mathlib.Core.List.{List}
@@ -19,17 +19,25 @@ use Rattle.sheet.specs.declared.Check.the-variants.{Passed}
 use Rattle.sheet.specs.Points.{inRange, isFilm, topOf}
 use Rattle.sheet.specs.Rank.{rank}
 use Rattle.sheet.specs.Edges.{edgeAt, edgesIn, drawingOf, topHeight}
-use Rattle.sheet.specs.Sound.{SweepOrder}
-use Rattle.sheet.specs.Kinds.{Way, arriving, leaving, From, below, above, endOf, comes, numberAt}
-use Rattle.sheet.specs.Answers.{Call, notWhole, tooMany, listsDiffer, journalShort, topFalls, edgeFault, sameFrom, sameKind, repeats, differ, uneven, checked}
+use Rattle.sheet.specs.Sound.{SweepOrder, Sound}
+use Rattle.sheet.specs.Turning.{sooner}
+use Rattle.sheet.specs.Kinds.{Way, arriving, leaving, From, below, otherFrom, sameFrom, endOf, comes}
+use Rattle.sheet.specs.Corners.{four, ofKind, cornerAt, alternate, apart}
+use Rattle.sheet.specs.Answers.{Call, notWhole, tooMany, listsDiffer, journalShort, topFalls, edgeFault, tangled, notAlternating, checked}
 use Rattle.sheet.proofs.Ranks.{rank-below, rank-same}
 use Rattle.sheet.proofs.Places.{place-is, height-of, film-of}
 use Rattle.sheet.proofs.Tops.{end-heights}
+use Rattle.sheet.proofs.AtAPlace.{of-kind, kind-there, two-each}
+use Rattle.sheet.proofs.Following.{goesOn}
 use Rattle.sheet.proofs.Checked.{Checked}
+use Rattle.corner.proofs.Sides.{sideOf, Sided}
+use Rattle.corner.proofs.Corners.{rule-is}
 use Rattle.checks.specs.Faults.{EndsFit}
 use Rattle.checks.proofs.EdgeFaults.{top-in-range, none-of, tail-in, head-in, film-in, ends-differ}
 use Rattle.checks.proofs.Answering.{ends-fit}
-use Rattle.checks.proofs.AnswerSheet.{LengthsFit, Row, no-row, exactly}
+use Rattle.checks.proofs.AtCorners.{along-side}
+use Rattle.checks.proofs.AnswerSheet.{LengthsFit, PlacesSound, Row, no-row, exactly}
+use Rattle.checks.proofs.SoundList.{sound-list}
 use Rattle.sheet.specs.Amounts.{numbersPerEdge, films, journalNumbersPerEdge, mostEdges}
 
 pub record AllPassed (c : Call) : Type 0 where
@@ -70,16 +78,33 @@ module _ {s : List ℤ} (E : EndsFit s (edgesIn s)) (none : NoneBelow (edgeFault
   unfolding drawingOf
   order e l = rw add-one (omega (arith, top-height e (omega arith), top-height (suc e) (omega arith), rises e (omega arith)))
 
-pub sheet-checked : (s : List ℤ) → edgesIn s ≤ mostEdges → NoneBelow (edgeFault s) (edgesIn s) → NoneBelow (repeats (drawingOf s)) (edgesIn s) → NoneBelow (uneven (drawingOf s)) (edgesIn s) → Checked (drawingOf s)
+-- 17 is not given: at a place with four edges the first one met turning clockwise is told by its side
+module _ {s : List ℤ} (E : EndsFit s (edgesIn s)) (S : Sound (drawingOf s)) (none : NoneBelow (notAlternating (drawingOf s)) (edgesIn s)) (p : ℕ) (whole : four (drawingOf s) p ≡ true) where
+  kind : (w : Way) (c : From) → (e : ℕ) × (e < edgesIn s) × (endOf (drawingOf s) w e ≡ p) × (comes (drawingOf s) w e ≡ c)
+  unfolding drawingOf
+  kind w c = kind-there S w p (two-each S p whole w) c
+
+  sided : Sided (cornerAt (drawingOf s) p)
+  unfolding cornerAt drawingOf
+  sided = record { sided = λ w c. let v = kind w c in rw (ap (ofKind (drawingOf s) p w) (sym (v .3)) ∙ of-kind S w p (v .0) (v .1) (v .2)) (along-side E (v .0) (v .1) w ∙ ap sideOf (v .3)) }
+
+  alternates : alternate (cornerAt (drawingOf s) p) ≡ true
+  unfolding notAlternating tangled
+  alternates =
+      let v = kind arriving below in
+      let t : tangled (drawingOf s) p ≡ false = ap (tangled (drawingOf s)) (sym (v .2)) ∙ neither-true (tangled (drawingOf s) (drawingOf s .tail (v .0))) _ (none (v .0) (v .1)) .1 in
+      not-false _ (rw whole at t)
+
+  turns : (c d : From) → sooner (cornerAt (drawingOf s) p arriving c) (cornerAt (drawingOf s) p leaving d) (cornerAt (drawingOf s) p leaving (otherFrom d)) ≡ sameFrom d (goesOn (apart (drawingOf s) p) c)
+  unfolding apart
+  turns c d = rw whole (rule-is (cornerAt (drawingOf s) p) sided alternates c d)
+
+pub sheet-checked : (c : Call) → edgesIn (c .list) ≤ mostEdges → PlacesSound c → NoneBelow (notAlternating (drawingOf (c .list))) (edgesIn (c .list)) → Checked (drawingOf (c .list))
 unfolding drawingOf
-sheet-checked s few none once level = record {
-  flat = place-is;
-  one-film = one-film (ends-fit s few none) none;
-  proper = proper (ends-fit s few none) none;
-  order = order (ends-fit s few none) none;
-  sound = record { single = single s once; even = even s level };
-  parted = λ e l a. absurd (not-both a refl);
-}
+sheet-checked c few p none =
+    let E = ends-fit (c .list) few (p .edges) in
+    let S = sound-list (c .list) (p .once) (p .level) in
+    record { flat = place-is; one-film = one-film E (p .edges); proper = proper E (p .edges); order = order E (p .edges); sound = S; turning = turns E S none }
 
 -- the numbers that 1 to 4 compare
 module _ (c : Call) (l : LengthsFit c) where
@@ -115,7 +140,7 @@ all-passed c (no-row p a) =
       tails-in-range = tail-in E;
       heads-in-range = head-in E;
       films-in-range = film-in E;
-      sheet = sheet-checked (c .list) (few c l) p a;
+      sheet = sheet-checked c (few c l) p a;
     }
 
 pub passed : (c : Call) → checked c ≡ Passed → AllPassed c

@@ -58,25 +58,29 @@ module _ {words : List ℕ} {m a b : ℕ} (P : AtPlace words m a b) where
       (λ k l h. ap (λ (x : Bool). x && test k) (eq-eqb (placeIn words k) (placeIn words a) (P .here k l h)))
       (λ k l h. ap (λ (x : Bool). x && test k) (ne-eqb (placeIn words k) (placeIn words a) (λ q. omega (arith, q, P .after k l h))))
 
+  arrive : count (arrivesAt words (placeIn words a)) m + count (arrivesIn words) a ≡ count (arrivesIn words) b
+  arrive = counted (arrivesIn words)
+
+  leave : count (leavesAt words (placeIn words a)) m + count (λ i. not (arrivesIn words i)) a ≡ count (λ i. not (arrivesIn words i)) b
+  leave = counted (λ i. not (arrivesIn words i))
+
+  all : (n : ℕ) → n ≡ count (arrivesIn words) n + count (λ i. not (arrivesIn words i)) n
+  all n = sym (count-all anyEnd n (λ i g. refl)) ∙ count-either (arrivesIn words) (λ i. not (arrivesIn words i)) anyEnd n (λ i g. one (arrivesIn words i))
+    where
+      one : (x : Bool) → 1 ≡ bit x + bit (not x)
+      one true = refl
+      one false = refl
+
+  -- the ends between are those that arrive at the place and those that leave it
+  pub ends-between : count (arrivesAt words (placeIn words a)) m + count (leavesAt words (placeIn words a)) m + a ≡ b
+  ends-between = omega (arith, arrive, leave, all a, all b)
+
   -- of the ends between, as many arrive as leave where twice the arriving ones are all
   pub uneven-is : (number : ℕ) → number + count (arrivesIn words) a ≡ count (arrivesIn words) b → (k : ℕ) → a ≤ k → k < b → unevenAt words m k ≡ not (eqb (2 * number) (b - a))
   unfolding unevenAt
   uneven-is number told k l h =
       ap (λ (q : ℕ). not (eqb (count (arrivesAt words q) m) (count (leavesAt words q) m))) (P .here k l h)
       ∙ ap not (eqb-agree (count (arrivesAt words (placeIn words a)) m) (count (leavesAt words (placeIn words a)) m) (2 * number) (b - a) (λ q. omega (arith, q, told, arrive, leave, all a, all b)) (λ q. omega (arith, q, told, arrive, leave, all a, all b)))
-    where
-      arrive : count (arrivesAt words (placeIn words a)) m + count (arrivesIn words) a ≡ count (arrivesIn words) b
-      arrive = counted (arrivesIn words)
-
-      leave : count (leavesAt words (placeIn words a)) m + count (λ i. not (arrivesIn words i)) a ≡ count (λ i. not (arrivesIn words i)) b
-      leave = counted (λ i. not (arrivesIn words i))
-
-      one : (x : Bool) → 1 ≡ bit x + bit (not x)
-      one true = refl
-      one false = refl
-
-      all : (n : ℕ) → n ≡ count (arrivesIn words) n + count (λ i. not (arrivesIn words i)) n
-      all n = sym (count-all anyEnd n (λ i g. refl)) ∙ count-either (arrivesIn words) (λ i. not (arrivesIn words i)) anyEnd n (λ i g. one (arrivesIn words i))
 
   -- the end before the first one has another place
   first-new : repeatsIn words a ≡ false

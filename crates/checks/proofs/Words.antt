@@ -84,6 +84,14 @@ module _ {s : List ℤ} {n : ℕ} (E : EndsFit s n) (e : ℕ) (l : e < n) where
       let le : heightOf head ≤ heightOf tail = ltb-false _ _ (sym ordered-ends ∙ u) in
       ⊎-elim (λ h. h) (λ h. absurd (not-both (rank-same tail head (tail-in E e l) (head-in E e l) ∙ eq-eqb (rank tail) (rank head) (level-ends (omega arith))) (ends-differ E e l))) (lt-or-le (heightOf head) (heightOf tail))
 
+  pub rises-to : isBelow (edgeAt s e .tail) (edgeAt s e .head) ≡ true → drawingOf s .height (drawingOf s .tail e) < drawingOf s .height (drawingOf s .head e)
+  unfolding drawingOf tail head heightOf
+  rises-to = higher
+
+  pub falls-to : isBelow (edgeAt s e .tail) (edgeAt s e .head) ≡ false → drawingOf s .height (drawingOf s .head e) < drawingOf s .height (drawingOf s .tail e)
+  unfolding drawingOf tail head heightOf
+  falls-to = lower
+
   module _ {edge : Edge} (read : edge ≡ edgeAt s e) {p : Point} {up : Bool} (way : up ≡ isUp edge) where
     pub top-told : p ≡ topOf edge → endWord (placeOn (edge .film) p) (2 * bit up + 1) e ≡ topWord s e
     unfolding wordOf topWay topOf isUp comes drawingOf tail head heightOf
