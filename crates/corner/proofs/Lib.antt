@@ -7,3 +7,7 @@ pub mod SidesOfPoints
 pub mod Directions
 pub mod Sizes
 pub mod SameTurn
+pub mod FourSigns
+pub mod Corners
+pub mod Sooner
+pub mod Examples

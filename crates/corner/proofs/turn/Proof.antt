@@ -1,14 +1,12 @@
 -- `turn` meets its contract: the four gaps are those of the two directions, so both products and their difference fit.
 use mathlib.Core.Path.{_≡_}
 use borrow.Author.Needs.{needs}
-use lib.IntN.{_*ℤ_}
 use mir.Syntax.{w64}
 use mir.Val.{toZ, ofZ}
-use mir.ValLaws.{toZ-ofZ}
 use Rattle.laws.proofs.Deciding.{both-true}
 use Rattle.sheet.specs.Points.{inRange, within}
-use Rattle.sheet.specs.Turning.{Direction, towards, cross}
-use Rattle.corner.proofs.Sizes.{Near, near, product-fits, cross-fits, gap-kept}
+use Rattle.sheet.specs.Turning.{Direction, towards}
+use Rattle.corner.proofs.Sizes.{Near, near, first-fits, second-fits, turn-fits, turn-kept, gap-kept}
 use Rattle.corner.proofs.turn.Statement.{statement}
 use Rattle.corner.proofs.turn.Tie as tie
 
@@ -46,34 +44,16 @@ gaps c =
     )
 
 mul-result : tie.Need-mul-result
-mul-result c = rw (gaps c .0, gaps c .3) (product-fits (one c .right) (other c .up) (near-one c .right) (near-other c .up))
+mul-result c = first-fits (one c) (other c) (near-one c) (near-other c) (gaps c)
 
 mul-result-2 : tie.Need-mul-result-2
-mul-result-2 c = rw (gaps c .1, gaps c .2) (product-fits (one c .up) (other c .right) (near-one c .up) (near-other c .right))
+mul-result-2 c = second-fits (one c) (other c) (near-one c) (near-other c) (gaps c)
 
 sub-result : tie.Need-sub-result
-unfolding cross
-sub-result c =
-    rw (
-      gaps c .0,
-      gaps c .1,
-      gaps c .2,
-      gaps c .3,
-      toZ-ofZ w64 (one c .right *ℤ other c .up) (product-fits (one c .right) (other c .up) (near-one c .right) (near-other c .up)),
-      toZ-ofZ w64 (one c .up *ℤ other c .right) (product-fits (one c .up) (other c .right) (near-one c .up) (near-other c .right)),
-    ) (cross-fits (one c) (other c) (near-one c) (near-other c))
+sub-result c = turn-fits (one c) (other c) (near-one c) (near-other c) (gaps c)
 
 returns : tie.Need-returns
-unfolding cross
-returns c =
-    rw (
-      gaps c .0,
-      gaps c .1,
-      gaps c .2,
-      gaps c .3,
-      toZ-ofZ w64 (one c .right *ℤ other c .up) (product-fits (one c .right) (other c .up) (near-one c .right) (near-other c .up)),
-      toZ-ofZ w64 (one c .up *ℤ other c .right) (product-fits (one c .up) (other c .right) (near-one c .up) (near-other c .right)),
-    ) (toZ-ofZ w64 (cross (one c) (other c)) (cross-fits (one c) (other c) (near-one c) (near-other c)))
+returns c = turn-kept (one c) (other c) (near-one c) (near-other c) (gaps c)
 
 pub turn-spec : {M : Type 1} → statement M
 turn-spec = tie.close (tie.spec (search needs) (search needs) (search needs) (search needs) mul-result mul-result-2 sub-result returns)
