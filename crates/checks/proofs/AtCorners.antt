@@ -132,7 +132,7 @@ module _ {s : List ℤ} {words : List ℕ} {n : ℕ} (S : SoundEnds s words n) w
     pub four-ends : FourEnds s words n a
     four-ends = record {
       is-edge = λ w c. omega (arith, edge-is w c, end w c .is-edge);
-      here = λ w c. rw (edge-is w c, sym (kind-is w c .0)) (place-is w c);
+      here = λ w c. rw (edge-is w c) (ap (λ (v : Way). endOf (drawingOf s) v (end w c .edge)) (sym (kind-is w c .0)) ∙ place-is w c);
       side = λ w c. rw (edge-is w c) (ap (λ (v : Way). comes (drawingOf s) v (end w c .edge)) (sym (kind-is w c .0)) ∙ kind-is w c .1);
     }
 

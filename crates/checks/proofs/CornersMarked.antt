@@ -118,7 +118,7 @@ module _ {s : List ℤ} {words : List ℕ} {n : ℕ} (S : SoundEnds s words n) w
     marked-more {found} {marks} t split C = record {
       tangles = let q : min found n ≡ found = omega (arith, C .tangles .within) in subst (λ (r : ℕ). Least (tangledIn s words) (edgeIn words) n 0 (a + 4) r) q (least-join (omega arith) (omega arith) (C .tangles) (least-none (tangled-here P false t)));
       size = length-set (set marks x 1) y 1 ∙ length-set marks x 1 ∙ C .size;
-      seen = λ e k l h q. ⊎-elim (λ g. other e (λ w z. omega (arith, P .before k g, q, top-of w e z)) ∙ C .seen e k l g q) (λ g. ⊎-elim (λ z. rw z first) (λ z. rw z second) (one-of-two e l (sym q ∙ g)) ∙ sym (ap bit (ap (parts (drawingOf s)) (sym q ∙ g) ∙ split))) (here-or-before P k h);
+      seen = λ e k l h q. ⊎-elim (λ g. other e (λ w z. omega (arith, P .before k g, q, top-of w e z)) ∙ C .seen e k l g q) (λ g. ⊎-elim (λ z. ap (λ (i : ℕ). getD (set (set marks x 1) y 1) i 0) z ∙ first) (λ z. ap (λ (i : ℕ). getD (set (set marks x 1) y 1) i 0) z ∙ second) (one-of-two e l (sym q ∙ g)) ∙ sym (ap bit (ap (parts (drawingOf s)) (sym q ∙ g) ∙ split))) (here-or-before P k h);
       unseen = λ e f. other e (λ w z. f a (omega (arith, z, F .is-edge w below)) (omega arith) (sym (top-of w e z))) ∙ C .unseen e (λ k l h. f k l (omega arith));
     }
       where
@@ -141,7 +141,7 @@ module _ {s : List ℤ} {words : List ℕ} {n : ℕ} (S : SoundEnds s words n) w
         second = getD-set-same (set marks x 1) y 1 0 (omega (arith, room leaving, length-set marks x 1))
 
         first : getD (set (set marks x 1) y 1) x 0 ≡ 1
-        first = ⊎-elim (λ z. rw z second) (λ d. getD-set-other (set marks x 1) y x 1 0 d ∙ getD-set-same marks x 1 0 (room arriving)) (eq-or-ne x y)
+        first = ⊎-elim (λ z. ap (λ (e : ℕ). getD (set (set marks x 1) y 1) e 0) z ∙ second) (λ d. getD-set-other (set marks x 1) y x 1 0 d ∙ getD-set-same marks x 1 0 (room arriving)) (eq-or-ne x y)
 
   -- after the last place
   pub all-marked : {found : ℕ} {marks : List ℕ} → CornersSoFar s words n (2 * n) found marks → Marked s marks

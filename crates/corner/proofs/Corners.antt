@@ -4,10 +4,11 @@ use mathlib.Core.Bool.{Bool, true, false}
 use Rattle.sheet.specs.Kinds.{arriving, leaving, From, below, above, otherFrom, sameFrom}
 use Rattle.sheet.specs.Turning.{plus, isSign, Direction, turn, sooner}
 use Rattle.sheet.specs.Corners.{Corner, twoInOne, leavingFirst, alternate, lowerApart}
+use Rattle.sheet.proofs.Following.{goesOn}
 use Rattle.corner.specs.Turns.{alike}
 use Rattle.corner.proofs.Sides.{Sided}
 use Rattle.corner.proofs.Directions.{turn-back, two-below, one-below, same-way-beside, same-way-across}
-use Rattle.corner.proofs.FourSigns.{goesOn, possible, alternateBy, leavesFirst, alternate-alike, rule-apart}
+use Rattle.corner.proofs.FourSigns.{possible, alternateBy, leavesFirst, alternate-alike, rule-apart}
 
 crosses : (t : Bool) → sameFrom above (goesOn t below) ≡ t
 crosses true = refl

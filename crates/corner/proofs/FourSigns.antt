@@ -3,15 +3,11 @@
 use mathlib.Core.Path.{_≡_, refl}
 use mathlib.Core.Bool.{Bool, true, false, not, _&&_, _||_}
 use Rattle.sheet.specs.Turning.{Sign, nought, plus, isSign, soonerBy}
-use Rattle.sheet.specs.Kinds.{From, below, above, otherFrom, sameFrom}
+use Rattle.sheet.specs.Kinds.{From, below, above, sameFrom}
+use Rattle.sheet.proofs.Following.{goesOn}
 use Rattle.corner.specs.Turns.{alike}
 use Rattle.corner.proofs.AllSigns.{all3, all-signs3, implies, then, agree, agreed}
 use Rattle.corner.proofs.Signs.{flip, balanced}
-
--- TO BE IMPORTED
-abbrev pub goesOn : Bool → From → From
-goesOn false side = side
-goesOn true side = otherFrom side
 
 -- what three directions on the two sides allow: two below and one above, with the turns from the first to the second, and from each to the third ..
 abbrev twoBelow : Sign → Sign → Sign → Bool
