@@ -1,4 +1,5 @@
--- Four edges at a point, one of each kind: when they alternate, and which leaving edge follows each arriving one.
+-- Four edges at a point, one of each kind: when they alternate, and which leaving edge follows each arriving one. Both are read off the signs of the six
+-- turns between the four: a and l, the arriving and the leaving edge below, A and L, those above.
 use mathlib.Core.Path.{_≡_, refl, sym, ap, _∙_}
 use mathlib.Core.Bool.{Bool, true, false}
 use Rattle.sheet.specs.Kinds.{arriving, leaving, From, below, above, otherFrom, sameFrom}

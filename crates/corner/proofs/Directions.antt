@@ -27,8 +27,10 @@ module _ (a b c : Direction) where
   unfolding cross
   around-sum K =
       ring (K ∷ a .right ∷ a .up ∷ b .right ∷ b .up ∷ c .right ∷ c .up ∷ [])
-      ((v 0 ⊠ v 2 ⊞ v 1) ⊠ (v 3 ⊠ v 6 ⊟ v 4 ⊠ v 5) ⊞ (v 0 ⊠ v 4 ⊞ v 3) ⊠ (v 5 ⊠ v 2 ⊟ v 6 ⊠ v 1) ⊞ (v 0 ⊠ v 6 ⊞ v 5) ⊠ (v 1 ⊠ v 4 ⊟ v 2 ⊠ v 3)) (num (pos 0)) refl
+      ((v 0 ⊠ v 2 ⊞ v 1) ⊠ (v 3 ⊠ v 6 ⊟ v 4 ⊠ v 5) ⊞ (v 0 ⊠ v 4 ⊞ v 3) ⊠ (v 5 ⊠ v 2 ⊟ v 6 ⊠ v 1) ⊞ (v 0 ⊠ v 6 ⊞ v 5) ⊠ (v 1 ⊠ v 4 ⊟ v 2 ⊠ v 3))
+      (num (pos 0)) refl
 
+  -- so the sides weigh the turns, and the three can add up to 0
   pub around : balanced (times (side a) (turn b c)) (times (side b) (turn c a)) (times (side c) (turn a b)) ≡ true
   unfolding turn side
   around = rw (← part a b c (omega arith), ← part b c a (omega arith), ← part c a b (omega arith)) (balance _ _ _ (around-sum (pos K)))
@@ -36,7 +38,8 @@ module _ (a b c : Direction) where
       K : ℕ
       K = suc (natAbs (a .right) + natAbs (b .right) + natAbs (c .right))
 
-      part : (d e f : Direction) → natAbs (d .right) < K → sign (weigh K (d .up) (d .right) *ℤ cross e f) ≡ times (firstOf (sign (d .up)) (sign (d .right))) (sign (cross e f))
+      part : (d e f : Direction) → natAbs (d .right) < K →
+          sign (weigh K (d .up) (d .right) *ℤ cross e f) ≡ times (firstOf (sign (d .up)) (sign (d .right))) (sign (cross e f))
       part d e f h = sign-times (weigh K (d .up) (d .right)) (cross e f) ∙ ap (λ (s : Sign). times s (sign (cross e f))) (sign-weigh K (d .up) (d .right) h)
 
 -- in one line: then the signs of the two products are the same
@@ -45,7 +48,9 @@ unfolding turn cross
 in-line d b h = sym (sign-times (d .right) (b .up)) ∙ ap sign e ∙ sign-times (d .up) (b .right)
   where
     e : d .right *ℤ b .up ≡ d .up *ℤ b .right
-    e = sym (-ℤ-+ℤ-cancel (d .right *ℤ b .up) (d .up *ℤ b .right)) ∙ ap (λ (z : ℤ). z +ℤ d .up *ℤ b .right) (sign-zero (cross d b) h) ∙ +ℤ-idl (d .up *ℤ b .right)
+    e =
+        sym (-ℤ-+ℤ-cancel (d .right *ℤ b .up) (d .up *ℤ b .right)) ∙ ap (λ (z : ℤ). z +ℤ d .up *ℤ b .right) (sign-zero (cross d b) h) ∙
+        +ℤ-idl (d .up *ℤ b .right)
 
 -- the signs of two directions, x and y of one, z and w of the other
 abbrev inLine : Sign → Sign → Sign → Sign → Bool
@@ -62,22 +67,32 @@ pub same-way : (d b : Direction) → sameWay d b ≡ (isSign (turn d b) nought &
 unfolding sameWay side
 same-way d b = by (turn d b) refl
   where
-    by : (t : Sign) → turn d b ≡ t → (isSign t nought && (isSign (sign (d .right)) (sign (b .right)) && isSign (sign (d .up)) (sign (b .up)))) ≡ (isSign t nought && isSign (firstOf (sign (d .up)) (sign (d .right))) (firstOf (sign (b .up)) (sign (b .right))))
+    by : (t : Sign) → turn d b ≡ t →
+        (isSign t nought && (isSign (sign (d .right)) (sign (b .right)) && isSign (sign (d .up)) (sign (b .up)))) ≡
+        (isSign t nought && isSign (firstOf (sign (d .up)) (sign (d .right))) (firstOf (sign (b .up)) (sign (b .right))))
     by minus e = refl
     by nought e = line-signs (sign (d .right)) (sign (d .up)) (sign (b .right)) (sign (b .up)) (in-line d b e)
     by plus e = refl
 
+-- on one side, the turn tells whether two are in one direction; across the point no two are
 pub same-way-beside : (d b : Direction) → side d ≡ side b → sameWay d b ≡ isSign (turn d b) nought
 same-way-beside d b h = same-way d b ∙ ap (λ (t : Bool). isSign (turn d b) nought && t) (rw h (isSign-self (side b))) ∙ and-true (isSign (turn d b) nought)
 
 pub same-way-across : (d b : Direction) → side d ≡ minus → side b ≡ plus → sameWay d b ≡ false
 same-way-across d b h k = same-way d b ∙ rw (h, k) (and-false (isSign (turn d b) nought))
 
--- what three directions on the two sides allow: two below and one above ..
+-- what three directions on the two sides allow, by the turns from the first to the second, from the first and from the second to the third: two below
+-- and one above ..
+abbrev pub twoBelow : Sign → Sign → Sign → Bool
+twoBelow ab ac bc = balanced (flip bc) ac ab
+
+-- .. one below and two above
+abbrev pub oneBelow : Sign → Sign → Sign → Bool
+oneBelow ab ac bc = balanced (flip bc) (flip ac) ab
+
 module _ (a b c : Direction) where
-  pub two-below : side a ≡ minus → side b ≡ minus → side c ≡ plus → balanced (flip (turn b c)) (turn a c) (turn a b) ≡ true
+  pub two-below : side a ≡ minus → side b ≡ minus → side c ≡ plus → twoBelow (turn a b) (turn a c) (turn b c) ≡ true
   two-below ha hb hc = rw (ha, hb, hc, turn-back a c, flip-flip (turn a c)) at (around a b c)
 
-  -- .. one below and two above
-  pub one-below : side a ≡ minus → side b ≡ plus → side c ≡ plus → balanced (flip (turn b c)) (flip (turn a c)) (turn a b) ≡ true
+  pub one-below : side a ≡ minus → side b ≡ plus → side c ≡ plus → oneBelow (turn a b) (turn a c) (turn b c) ≡ true
   one-below ha hb hc = rw (ha, hb, hc, turn-back a c) at (around a b c)

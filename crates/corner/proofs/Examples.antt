@@ -1,10 +1,10 @@
 -- What the definitions say of corners that one can draw, computed: the paper's two pixels, corners that do not alternate, the eight winds, level edges
 -- and the ends of the range.
 use mathlib.Core.Path.{_≡_, refl}
-use mathlib.Core.Bool.{Bool, true, false, _&&_}
+use mathlib.Core.Bool.{true, false, _&&_}
 use lib.IntN.{ℤ, pos, negsuc}
 use Rattle.sheet.specs.declared.Point.{Point}
-use Rattle.sheet.specs.Kinds.{Way, arriving, leaving, From, below, above}
+use Rattle.sheet.specs.Kinds.{arriving, leaving, below, above}
 use Rattle.sheet.specs.Turning.{minus, plus, sign, Direction, towards, cross, turn, sameWay, sooner}
 use Rattle.sheet.specs.Corners.{Corner, twoInOne, leavingFirst, alternate, lowerApart}
 use Rattle.corner.proofs.Sides.{side}

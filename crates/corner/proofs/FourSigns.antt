@@ -7,16 +7,10 @@ use Rattle.sheet.specs.Kinds.{From, below, above, sameFrom}
 use Rattle.sheet.proofs.Following.{goesOn}
 use Rattle.corner.specs.Turns.{alike}
 use Rattle.corner.proofs.AllSigns.{all3, all-signs3, implies, then, agree, agreed}
-use Rattle.corner.proofs.Signs.{flip, balanced}
+use Rattle.corner.proofs.Signs.{flip}
+use Rattle.corner.proofs.Directions.{twoBelow, oneBelow}
 
--- what three directions on the two sides allow: two below and one above, with the turns from the first to the second, and from each to the third ..
-abbrev twoBelow : Sign → Sign → Sign → Bool
-twoBelow ab ac bc = balanced (flip bc) ac ab
-
--- .. one below and two above
-abbrev oneBelow : Sign → Sign → Sign → Bool
-oneBelow ab ac bc = balanced (flip bc) (flip ac) ab
-
+-- what each three of the four allow
 abbrev pub possible : (al AL aA aL lA lL : Sign) → Bool
 possible al AL aA aL lA lL = twoBelow al aA lA && (twoBelow al aL lL && (oneBelow aA aL AL && oneBelow lA lL AL))
 
@@ -33,6 +27,7 @@ leavesFirst below above al AL aA aL lA lL = soonerBy aL al (flip lL)
 leavesFirst above below al AL aA aL lA lL = soonerBy (flip lA) AL lL
 leavesFirst above above al AL aA aL lA lL = soonerBy AL (flip lA) (flip lL)
 
+-- they alternate exactly when the turns below and above go the same way
 abbrev alternateTest : (al AL aA aL lA lL : Sign) → Bool
 alternateTest al AL aA aL lA lL = implies (possible al AL aA aL lA lL) (agree (alternateBy al AL aA aL lA lL) (alike al AL))
 

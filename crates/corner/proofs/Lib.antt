@@ -2,12 +2,12 @@
 pub mod AllSigns
 pub mod Signs
 pub mod Sides
-pub mod Weighing
 pub mod SidesOfPoints
+pub mod Weighing
 pub mod Directions
-pub mod Sizes
-pub mod SameTurn
 pub mod FourSigns
 pub mod Corners
 pub mod Sooner
+pub mod Sizes
+pub mod SameTurn
 pub mod Examples

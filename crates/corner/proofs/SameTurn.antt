@@ -11,6 +11,7 @@ use Rattle.sheet.specs.Turning.{Sign, minus, nought, plus, sign, isSign}
 use Rattle.corner.specs.Turns.{alike}
 use Rattle.corner.proofs.AllSigns.{all-signs, agree, agreed, isSign-true}
 
+-- the code tests signs by comparing with 0
 above-0 : (z : ℤ) → ltZ (pos 0) z ≡ isSign (sign z) plus
 unfolding sign
 above-0 (pos zero) = refl

@@ -1,9 +1,10 @@
 -- What the toolchain's integers lack of a ring: the product goes over sums and is associative, and minus is a product. A law of three numbers is
 -- shown of 0, then from a number to the next and to the one before.
-use mathlib.Core.Path.{_≡_, refl, sym, ap, _∙_}
+use mathlib.Core.Path.{_≡_, sym, ap, _∙_}
 use Prim.Native.Nat.{ℕ, suc}
 use native.Mathlib.Nat.{one-mul}
-use lib.IntN.{ℤ, pos, negsuc, negℤ, sucℤ, predℤ, _+ℤ_, _-ℤ_, _*ℤ_, ℤ-ind, +ℤ-idl, +ℤ-idr, +ℤ-one, -ℤ-one, +ℤ-assoc, +ℤ-comm, +ℤ-invr, +ℤ-negℤ-cancel, +ℤ-sucℤ, +ℤ-predℤ, zero-*ℤ, sucℤ-*ℤ, predℤ-*ℤ, *ℤ-comm}
+use lib.IntN.{ℤ, pos, negsuc, negℤ, sucℤ, predℤ, _+ℤ_, _-ℤ_, _*ℤ_, ℤ-ind, zero-*ℤ, sucℤ-*ℤ, predℤ-*ℤ, *ℤ-comm}
+use lib.IntN.{+ℤ-idl, +ℤ-idr, +ℤ-one, -ℤ-one, +ℤ-assoc, +ℤ-comm, +ℤ-invr, +ℤ-negℤ-cancel, +ℤ-sucℤ, +ℤ-predℤ}
 
 -- what holds of 0, and with a number of the next and of the one before, holds of all
 by-steps : (P : ℤ → Type 0) → P (pos 0) → ((k : ℤ) → P k → P (sucℤ k)) → ((k : ℤ) → P k → P (predℤ k)) → (k : ℤ) → P k

@@ -13,10 +13,14 @@ cast-result-2 : tie.Need-cast-result-2
 cast-result-2 c = rw (toZ-ofZ w32 (c .args .from) (c .fits .from)) (wide (c .args .from) (c .fits .from))
 
 sub-result : tie.Need-sub-result
-sub-result c = rw (read-widened (c .args .to) (c .fits .to), read-widened (c .args .from) (c .fits .from)) (gap-fits (c .args .to) (c .args .from) (c .fits .to) (c .fits .from))
+sub-result c =
+    rw (read-widened (c .args .to) (c .fits .to), read-widened (c .args .from) (c .fits .from))
+    (gap-fits (c .args .to) (c .args .from) (c .fits .to) (c .fits .from))
 
 returns : tie.Need-returns
-returns c = rw (read-widened (c .args .to) (c .fits .to), read-widened (c .args .from) (c .fits .from)) (toZ-ofZ w64 _ (gap-fits (c .args .to) (c .args .from) (c .fits .to) (c .fits .from)))
+returns c =
+    rw (read-widened (c .args .to) (c .fits .to), read-widened (c .args .from) (c .fits .from))
+    (toZ-ofZ w64 _ (gap-fits (c .args .to) (c .args .from) (c .fits .to) (c .fits .from)))
 
 pub gap-spec : {M : Type 1} → statement M
 gap-spec = tie.close (tie.spec cast-result cast-result-2 sub-result returns)
