@@ -145,7 +145,7 @@ lengths-before c = by (not (eqb (length (c .list) % numbersPerEdge) 0)) (ltb mos
 
 pub edges-before : (s : List ℤ) → EndsBefore (edgesChecked s)
 unfolding edgesChecked
-edges-before s = if-before _ (faultOf s e) (by (pastRange s e) (filmPastRange s e) (equalEnds s e)) passed-before
+edges-before s = if-before (ltb e (edgesIn s)) (faultOf s e) (by (pastRange s e) (filmPastRange s e) (equalEnds s e)) passed-before
   where
     e : ℕ
     e = first (edgeFault s) (edgesIn s)

@@ -9,25 +9,29 @@ use native.Mathlib.Omega.{arith}
 use lib.Dec.{eqb, ltb}
 use lib.IntN.{ℤ}
 use lib.ListN.{getD}
+use mir.Syntax.{w64}
+use mir.Val.{toZ, ofZ}
+use mir.ValLaws.{toZ-ofZ}
 use borrow.Author.Tests.{lt-ltb, le-ltb, ltb-true, ltb-false}
 use Rattle.laws.proofs.Deciding.{lt-or-le, not-both}
 use Rattle.laws.proofs.Tests.{and-true, and-false}
 use Rattle.sheet.specs.Points.{isBelow}
-use Rattle.sheet.specs.Turning.{sign, plus, isSign, cross, turn, towards}
+use Rattle.sheet.specs.Turning.{Sign, plus, isSign, cross, turn}
 use Rattle.sheet.specs.Edges.{edgeAt, drawingOf}
 use Rattle.sheet.specs.Kinds.{Way, arriving, leaving, otherWay, From, below, above, endOf, comes, numberAt}
 use Rattle.sheet.specs.Corners.{along, four, ofKind, cornerAt, alternate, lowerApart, apart}
 use Rattle.sheet.specs.Answers.{tangled}
-use Rattle.sheet.proofs.Places.{place-below}
+use Rattle.sheet.proofs.Places.{place-below, place-parts}
 use Rattle.sheet.proofs.AtAPlace.{of-kind}
 use Rattle.corner.specs.Turns.{alike}
 use Rattle.corner.proofs.Sides.{side, sideOf, Sided}
 use Rattle.corner.proofs.SidesOfPoints.{side-below, side-above}
 use Rattle.corner.proofs.Corners.{alternate-is, apart-is}
+use Rattle.corner.proofs.Sizes.{near, cross-fits}
 use Rattle.checks.specs.Faults.{EndsFit}
 use Rattle.checks.specs.Ends.{wayNumber, fromNumber, wordOf, keyIn, placeIn, edgeIn, IsEnd}
 use Rattle.checks.specs.Places.{AtPlace}
-use Rattle.checks.specs.Corners.{topPlace, parts, SoundEnds, kindNumber, FourEnds}
+use Rattle.checks.specs.Corners.{parts, turnIn, SoundEnds, kindNumber, FourEnds}
 use Rattle.checks.proofs.EdgeFaults.{tail-in, head-in, film-in}
 use Rattle.checks.proofs.Words.{from-small, way-small, word-key, rises-to, falls-to}
 use Rattle.checks.proofs.ByWords.{one-spot, number-told, place-told, edge-told, key-way}
@@ -136,6 +140,26 @@ module _ {s : List ℤ} {words : List ℕ} {n : ℕ} (S : SoundEnds s words n) w
       side = λ w c. rw (edge-is w c) (ap (λ (v : Way). comes (drawingOf s) v (end w c .edge)) (sym (kind-is w c .0)) ∙ kind-is w c .1);
     }
 
+    -- below and above, the one leaves where the other arrives
+    pub meets-below : (edgeIn words (a + 3) < n) × (edgeIn words (a + 1) < n) × (drawingOf s .tail (edgeIn words (a + 1)) ≡ drawingOf s .head (edgeIn words (a + 3)))
+    meets-below = let F = four-ends in (F .is-edge arriving below, F .is-edge leaving below, F .here leaving below ∙ sym (F .here arriving below))
+
+    pub meets-above : (edgeIn words (a + 2) < n) × (edgeIn words a < n) × (drawingOf s .tail (edgeIn words a) ≡ drawingOf s .head (edgeIn words (a + 2)))
+    meets-above =
+        let F = four-ends in
+        let q : a + 0 ≡ a = omega arith in
+        (F .is-edge arriving above, rw q at (F .is-edge leaving above), ap (λ (k : ℕ). drawingOf s .tail (edgeIn words k)) (sym q) ∙ F .here leaving above ∙ sym (F .here arriving above))
+
+-- the turn where one edge leaves from another's head: as the code computes it, from that head, and as 64 bits keep it
+module _ {s : List ℤ} {n : ℕ} (E : EndsFit s n) {e f : ℕ} (l : e < n) (m : f < n) (meet : drawingOf s .tail f ≡ drawingOf s .head e) where
+  pub leaves-at : edgeAt s f .tail ≡ edgeAt s e .head
+  unfolding drawingOf
+  leaves-at = place-parts _ _ _ _ (film-in E f m) (film-in E e l) (tail-in E f m) (head-in E e l) meet .1
+
+  pub turn-kept : toZ w64 (ofZ w64 (cross (drawingOf s .back e) (drawingOf s .ahead f))) ≡ cross (drawingOf s .back e) (drawingOf s .ahead f)
+  unfolding drawingOf
+  turn-kept = toZ-ofZ w64 _ (cross-fits _ _ (near _ _ (head-in E e l) (tail-in E e l)) (near _ _ (tail-in E f m) (head-in E f m)))
+
 -- an edge's direction from a place lies on the side that it comes from
 module _ {s : List ℤ} {n : ℕ} (E : EndsFit s n) (e : ℕ) (l : e < n) where
   pub along-side : (w : Way) → side (along (drawingOf s) w e) ≡ sideOf (comes (drawingOf s) w e)
@@ -163,28 +187,33 @@ module _ {s : List ℤ} {words : List ℕ} {n a : ℕ} (S : SoundEnds s words n)
   unfolding edge
   sided = record { sided = λ w c. ap side (is-corner w c) ∙ along-side (S .fit) (edge w c) (F .is-edge w c) w ∙ ap sideOf (F .side w c) }
 
-  module _ {low high : ℤ} (lower : low ≡ cross (drawingOf s .back (edgeIn words (a + 3))) (drawingOf s .ahead (edgeIn words (a + 1))))
-      (upper : high ≡ cross (drawingOf s .back (edgeIn words (a + 2))) (drawingOf s .ahead (edgeIn words (a + 0)))) (whole : four (drawingOf s) (placeIn words a) ≡ true) where
-    turn-below : turn (cornerAt (drawingOf s) (placeIn words a) arriving below) (cornerAt (drawingOf s) (placeIn words a) leaving below) ≡ sign low
-    unfolding turn edge
-    turn-below = rw (is-corner arriving below, is-corner leaving below, lower)
+  module _ (whole : four (drawingOf s) (placeIn words a) ≡ true) where
+    lowSign : Sign
+    lowSign = turnIn s (edgeIn words (a + 3)) (edgeIn words (a + 1))
 
-    turn-above : turn (cornerAt (drawingOf s) (placeIn words a) arriving above) (cornerAt (drawingOf s) (placeIn words a) leaving above) ≡ sign high
-    unfolding turn edge
-    turn-above = rw (is-corner arriving above, is-corner leaving above, upper)
+    highSign : Sign
+    highSign = turnIn s (edgeIn words (a + 2)) (edgeIn words a)
 
-    alternates : alternate (cornerAt (drawingOf s) (placeIn words a)) ≡ alike (sign low) (sign high)
+    turn-below : turn (cornerAt (drawingOf s) (placeIn words a) arriving below) (cornerAt (drawingOf s) (placeIn words a) leaving below) ≡ lowSign
+    unfolding edge lowSign
+    turn-below = rw (is-corner arriving below, is-corner leaving below)
+
+    turn-above : turn (cornerAt (drawingOf s) (placeIn words a) arriving above) (cornerAt (drawingOf s) (placeIn words a) leaving above) ≡ highSign
+    unfolding edge highSign
+    turn-above = let q : a + 0 ≡ a = omega arith in rw (is-corner arriving above, is-corner leaving above, q)
+
+    alternates : alternate (cornerAt (drawingOf s) (placeIn words a)) ≡ alike lowSign highSign
     alternates = alternate-is (cornerAt (drawingOf s) (placeIn words a)) sided ∙ rw (turn-below, turn-above)
 
     -- 17 is given for the place where the two turns are not alike ..
-    pub tangled-is : tangled (drawingOf s) (placeIn words a) ≡ not (alike (sign low) (sign high))
-    unfolding tangled
+    pub tangled-is : tangled (drawingOf s) (placeIn words a) ≡ not (alike (turnIn s (edgeIn words (a + 3)) (edgeIn words (a + 1))) (turnIn s (edgeIn words (a + 2)) (edgeIn words a)))
+    unfolding tangled lowSign highSign
     tangled-is = rw (whole, alternates)
 
     -- .. and where they are, it is apart where the lower one is plus
-    pub parts-is : alike (sign low) (sign high) ≡ true → parts (drawingOf s) (placeIn words a) ≡ isSign (sign low) plus
-    unfolding parts apart
-    parts-is h = rw (tangled-is, whole, h, apart-is (cornerAt (drawingOf s) (placeIn words a)) sided (alternates ∙ h), turn-below) (and-true (isSign (sign low) plus))
+    pub parts-is : alike (turnIn s (edgeIn words (a + 3)) (edgeIn words (a + 1))) (turnIn s (edgeIn words (a + 2)) (edgeIn words a)) ≡ true → parts (drawingOf s) (placeIn words a) ≡ isSign (turnIn s (edgeIn words (a + 3)) (edgeIn words (a + 1))) plus
+    unfolding parts apart lowSign highSign
+    parts-is h = rw (tangled-is, whole, h, apart-is (cornerAt (drawingOf s) (placeIn words a)) sided (alternates ∙ h), turn-below) (and-true (isSign lowSign plus))
 
 -- a place that 17 is given for is not marked
 pub tangled-parts : (s : List ℤ) (p : ℕ) → tangled (drawingOf s) p ≡ true → parts (drawingOf s) p ≡ false

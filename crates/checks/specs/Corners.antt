@@ -11,6 +11,7 @@ use Rattle.laws.specs.Counting.{bit}
 use Rattle.sheet.specs.declared.Check.{Check}
 use Rattle.sheet.specs.declared.Check.the-variants.{Passed, Refused}
 use Rattle.sheet.specs.Amounts.{mostEdges}
+use Rattle.sheet.specs.Turning.{Sign, turn}
 use Rattle.sheet.specs.Edges.{Drawing, edgesIn, drawingOf}
 use Rattle.sheet.specs.Kinds.{Way, From, endOf, comes}
 use Rattle.sheet.specs.Corners.{apart}
@@ -45,6 +46,10 @@ cornersSeen (Refused r) = eqb (numberOf r) 17
 pub record MarksAfter (s : List ℤ) (answer : Check) (marks : List ℕ) : Type 0 where
   pub seen : cornersSeen answer ≡ true → Marked s marks
   pub unseen : cornersSeen answer ≡ false → marks ≡ noMarks
+
+-- the turn from the way that an edge came to the way that another one leaves
+abbrev pub turnIn : List ℤ → ℕ → ℕ → Sign
+turnIn s arriving leaving = turn (drawingOf s .back arriving) (drawingOf s .ahead leaving)
 
 -- the ends in order, of a list that passes 8 and 9
 pub record SoundEnds (s : List ℤ) (words : List ℕ) (n : ℕ) : Type 0 where

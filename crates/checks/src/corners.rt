@@ -5,11 +5,12 @@ use crate::places;
 use sheet::Edge;
 ghost use mathlib.Core.Path.{_≡_};
 ghost use Prim.Native.Nat.{_+_, _*_, _<_};
-ghost use Rattle.sheet.specs.Turning.{cross};
+ghost use Rattle.sheet.specs.Turning.{plus, isSign, cross};
 ghost use Rattle.sheet.specs.Edges.{drawingOf};
 ghost use Rattle.checks.specs.Faults.{EndsFit};
 ghost use Rattle.checks.specs.Places.{AtPlace};
-ghost use Rattle.checks.specs.Corners.{SoundEnds, CornersSoFar, noMarks};
+ghost use Rattle.corner.specs.Turns.{alike};
+ghost use Rattle.checks.specs.Corners.{turnIn, SoundEnds, CornersSoFar, noMarks};
 
 // The turn from the way that an edge came to the way that another one leaves from there.
 fn turn(edges: &[i32], n: usize, arriving: usize, leaving: usize) -> i64
@@ -19,6 +20,32 @@ fn turn(edges: &[i32], n: usize, arriving: usize, leaving: usize) -> i64
     let came = Edge::at(edges, arriving);
     let goes = Edge::at(edges, leaving);
     corner::turn(came.head, came.tail, goes.head)
+}
+
+// Whether four edges alternate round a place: below and above, one turns the same way from the arriving edge to the leaving one.
+fn alternate(
+    edges: &[i32],
+    n: usize,
+    arriving: usize,
+    leaving: usize,
+    incoming: usize,
+    outgoing: usize,
+) -> bool
+    requires below { ⌜ EndsFit (now edges) n × (arriving < n) × (leaving < n) × (drawingOf (now edges) .tail leaving ≡ drawingOf (now edges) .head arriving) ⌝ }
+    requires above { ⌜ (incoming < n) × (outgoing < n) × (drawingOf (now edges) .tail outgoing ≡ drawingOf (now edges) .head incoming) ⌝ }
+    ensures { λ r. ⌜ r ≡ alike (turnIn (now (edges .entry)) arriving leaving) (turnIn (now (edges .entry)) incoming outgoing) ⌝ }
+{
+    let low = turn(edges, n, arriving, leaving);
+    let high = turn(edges, n, incoming, outgoing);
+    corner::alternate(low, high)
+}
+
+// Whether, of four edges that alternate, the two lower ones do not join.
+fn parts(edges: &[i32], n: usize, arriving: usize, leaving: usize) -> bool
+    requires { ⌜ EndsFit (now edges) n × (arriving < n) × (leaving < n) × (drawingOf (now edges) .tail leaving ≡ drawingOf (now edges) .head arriving) ⌝ }
+    ensures { λ r. ⌜ r ≡ isSign (turnIn (now (edges .entry)) arriving leaving) plus ⌝ }
+{
+    turn(edges, n, arriving, leaving) > 0
 }
 
 // What is done at a place with four ends. They stand by kind: up and away from it, down and away, from above to it, from below to it.
@@ -34,20 +61,18 @@ fn at_four(
     requires found { ⌜ CornersSoFar (now edges) (now words) n from found (now apart) ⌝ }
     ensures { λ r. ⌜ CornersSoFar (now (edges .entry)) (now (words .entry)) n (from + 4) r (now (apart .exit)) ⌝ }
 {
-    let lower = ends::edge_of(words[from + 3]);
-    let lower_next = ends::edge_of(words[from + 1]);
-    let upper = ends::edge_of(words[from + 2]);
-    let upper_next = ends::edge_of(words[from]);
-    let low = turn(edges, n, lower, lower_next);
-    let high = turn(edges, n, upper, upper_next);
-    if !corner::alternate(low, high) {
+    let arriving = ends::edge_of(words[from + 3]);
+    let leaving = ends::edge_of(words[from + 1]);
+    let incoming = ends::edge_of(words[from + 2]);
+    let outgoing = ends::edge_of(words[from]);
+    if !alternate(edges, n, arriving, leaving, incoming, outgoing) {
         return laws::lower_of(found, places::least_edge(words, from, from + 4, n));
     }
-    if low <= 0 {
+    if !parts(edges, n, arriving, leaving) {
         return found;
     }
-    apart[lower] = 1;
-    apart[lower_next] = 1;
+    apart[arriving] = 1;
+    apart[leaving] = 1;
     found
 }
 

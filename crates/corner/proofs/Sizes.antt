@@ -32,7 +32,19 @@ gap-fits x y f g = fits (x -ℤ y) (omega (arith, natAbs-difference x y, natAbs-
 product-small : (x y : ℤ) → natAbs x ≤ 2000000 → natAbs y ≤ 2000000 → natAbs (x *ℤ y) ≤ 4000000000000
 product-small x y f g = omega (arith, natAbs-times x y, mul-le-mul f g)
 
--- the turn from one direction to another, of four numbers as the code keeps them
+-- the turn from one direction to another
+pub cross-fits : (d b : Direction) → Near d → Near b → SFits w64 (cross d b)
+unfolding cross
+cross-fits d b f g =
+    fits (cross d b)
+    (omega (
+      arith,
+      natAbs-difference (d .right *ℤ b .up) (d .up *ℤ b .right),
+      product-small (d .right) (b .up) (f .right) (g .up),
+      product-small (d .up) (b .right) (f .up) (g .right),
+    ))
+
+-- .. of four numbers as the code keeps them
 module _ (d b : Direction) (f : Near d) (g : Near b) {dr du br bu : ℤ} (e : (dr ≡ d .right) × (du ≡ d .up) × (br ≡ b .right) × (bu ≡ b .up)) where
   pub first-fits : SFits w64 (dr *ℤ bu)
   first-fits = rw (e .0, e .3) (fits (d .right *ℤ b .up) (omega (arith, product-small (d .right) (b .up) (f .right) (g .up))))
@@ -40,23 +52,12 @@ module _ (d b : Direction) (f : Near d) (g : Near b) {dr du br bu : ℤ} (e : (d
   pub second-fits : SFits w64 (du *ℤ br)
   second-fits = rw (e .1, e .2) (fits (d .up *ℤ b .right) (omega (arith, product-small (d .up) (b .right) (f .up) (g .right))))
 
-  cross-fits : SFits w64 (cross d b)
-  unfolding cross
-  cross-fits =
-      fits (cross d b)
-      (omega (
-        arith,
-        natAbs-difference (d .right *ℤ b .up) (d .up *ℤ b .right),
-        product-small (d .right) (b .up) (f .right) (g .up),
-        product-small (d .up) (b .right) (f .up) (g .right),
-      ))
-
   difference-is : toZ w64 (ofZ w64 (dr *ℤ bu)) -ℤ toZ w64 (ofZ w64 (du *ℤ br)) ≡ cross d b
   unfolding cross
   difference-is = rw (toZ-ofZ w64 (dr *ℤ bu) first-fits, toZ-ofZ w64 (du *ℤ br) second-fits, e .0, e .1, e .2, e .3)
 
   pub turn-fits : SFits w64 (toZ w64 (ofZ w64 (dr *ℤ bu)) -ℤ toZ w64 (ofZ w64 (du *ℤ br)))
-  turn-fits = rw difference-is cross-fits
+  turn-fits = rw difference-is (cross-fits d b f g)
 
   pub turn-kept : toZ w64 (ofZ w64 (toZ w64 (ofZ w64 (dr *ℤ bu)) -ℤ toZ w64 (ofZ w64 (du *ℤ br)))) ≡ cross d b
   turn-kept = toZ-ofZ w64 _ turn-fits ∙ difference-is

@@ -1,27 +1,19 @@
 -- `checks::places::first_at_fault` meets its contract: the ends are put in order, and the walk finds the least edges.
-use native.Mathlib.Omega.{arith}
 use borrow.Author.Needs.{needs}
-use Rattle.sheet.specs.Edges.{edgesIn}
 use Rattle.checks.proofs.ByWords.{walks, found-first}
 use Rattle.checks.proofs.places.first_at_fault.Statement.{statement}
 use Rattle.checks.proofs.places.first_at_fault.Tie as tie
 
-order-requires : tie.Need-order-requires
-unfolding edgesIn
-order-requires c κs = (c .before .pre, omega (arith, c .before .pre .few))
-
 walk-requires : tie.Need-walk-requires
-unfolding edgesIn
-walk-requires c κs = let s = c .before .before .before .before in walks (s .pre) (c .before .before .order .ensures) (omega (arith, s .pre .few))
+walk-requires c κs = let o = c .before .before .before in walks (o .before .before .before .pre .0) (o .order .ensures) (search needs)
 
 returns : tie.Need-returns
-unfolding edgesIn
-returns c = found-first (c .before .before .before .before .before .pre) (c .before .before .before .order .ensures) (c .walk .ensures)
+returns c =
+    let o = c .before .before .before .before in
+    let s = o .before .before .before in
+    (found-first (s .pre .0) (o .order .ensures) (c .walk .ensures), (o .order .ensures, walks (s .pre .0) (o .order .ensures) (search needs)))
 
 pub first-at-fault-spec : {M : Type 1} → statement M
 first-at-fault-spec =
     tie.close
-    (tie.spec
-    (search needs) order-requires
-    (search needs) (search needs) walk-requires
-    returns)
+    (tie.spec (λ c κs. search needs) (search needs) walk-requires (search needs) returns)
