@@ -1,9 +1,9 @@
--- A list that passes 8 and 9 is sound.
+-- A list that passes 8 and 9 is sound, and so its ends in order can be walked for 17.
 use mathlib.Core.Path.{_≡_, sym, ap, _∙_}
 use mathlib.Core.Bool.{true, false}
 use mathlib.Core.List.{List}
 use mathlib.Core.Logic.{⊎-elim}
-use Prim.Native.Nat.{ℕ, _<_}
+use Prim.Native.Nat.{ℕ, _*_, _≤_, _<_}
 use native.Mathlib.Omega.{arith}
 use lib.IntN.{ℤ}
 use borrow.Author.Tests.{eqb-true, eq-eqb, ne-eqb}
@@ -17,6 +17,12 @@ use Rattle.sheet.specs.Kinds.{Way, arriving, leaving, endOf, comes, numberAt}
 use Rattle.sheet.specs.Sound.{Sound}
 use Rattle.sheet.specs.Answers.{sameKind, repeats, differ, uneven}
 use Rattle.sheet.proofs.AtAPlace.{same-self}
+use Rattle.checks.specs.declared.places.AtFault.{AtFault}
+use Rattle.checks.specs.Faults.{EndsFit}
+use Rattle.checks.specs.Ends.{Ordered}
+use Rattle.checks.specs.Places.{Walks, firstAtFault}
+use Rattle.checks.specs.Corners.{SoundEnds}
+use Rattle.checks.proofs.Answering.{none-repeats, none-uneven}
 
 -- 8 is not given: no two edges of one kind at one place
 module _ (s : List ℤ) (once : NoneBelow (repeats (drawingOf s)) (edgesIn s)) where
@@ -55,3 +61,6 @@ module _ (s : List ℤ) (level : NoneBelow (uneven (drawingOf s)) (edgesIn s)) (
 pub sound-list : (s : List ℤ) → NoneBelow (repeats (drawingOf s)) (edgesIn s) → NoneBelow (uneven (drawingOf s)) (edgesIn s) → Sound (drawingOf s)
 unfolding drawingOf
 sound-list s once level = record { single = single s once; even = even s level }
+
+pub sound-ends : {s : List ℤ} {words : List ℕ} {f : AtFault} → EndsFit s (edgesIn s) → f ≡ firstAtFault s → Ordered s words (edgesIn s) × Walks words (2 * edgesIn s) → edgesIn s ≤ f .repeated → edgesIn s ≤ f .uneven → SoundEnds s words (edgesIn s)
+sound-ends {s} E found o once level = record { fit = E; ordered = o .0; walks = o .1; sound = sound-list s (none-repeats s found once level) (none-uneven s found once level) }

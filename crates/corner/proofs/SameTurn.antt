@@ -12,7 +12,7 @@ use Rattle.corner.specs.Turns.{alike}
 use Rattle.corner.proofs.AllSigns.{all-signs, agree, agreed, isSign-true}
 
 -- the code tests signs by comparing with 0
-above-0 : (z : ℤ) → ltZ (pos 0) z ≡ isSign (sign z) plus
+pub above-0 : (z : ℤ) → ltZ (pos 0) z ≡ isSign (sign z) plus
 unfolding sign
 above-0 (pos zero) = refl
 above-0 (pos (suc n)) = lt-ltb 0 (suc n) (omega arith)
