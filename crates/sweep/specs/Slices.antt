@@ -1,12 +1,16 @@
 -- The steps on the lent slices: places are points with films, a table of rows and a journal are slices of numbers. The code's own values, its progress and an edge
 -- with its name and lengths, as the steps have them.
-use Prim.Native.Nat.{ℕ}
+use Prim.Native.Nat.{ℕ, _<_}
+use mathlib.Core.Path.{_≡_}
 use mathlib.Core.Bool.{Bool, true, false}
 use mathlib.Core.List.{List}
 use lib.IntN.{ℤ}
+use lib.ListN.{getD}
+use Rattle.laws.specs.Counting.{bit}
 use Rattle.rows.specs.declared.Place.{Place}
 use Rattle.sheet.specs.Rank.{placeOn}
 use Rattle.sheet.specs.Edges.{edgeAt, drawingOf}
+use Rattle.sheet.specs.Corners.{apart}
 use Rattle.steps.specs.declared.End.{End}
 use Rattle.steps.specs.declared.End.the-variants.{Done, NoFreeRow, Overrun}
 use Rattle.steps.specs.Rows.{LevelEdge, Room}
@@ -37,11 +41,15 @@ edgeOf e = record { name = e .name; tail = onFilm (e .film) (e .tail); head = on
 
 -- which places of a list are apart
 unfoldable pub apartAt : List ℤ → Place → Bool
-apartAt s p = drawingOf s .apart (placeOn (p .film) (p .point))
+apartAt s p = apart (drawingOf s) (placeOn (p .film) (p .point))
 
 -- the edges of a list at level 0
 abbrev pub listEdges : List ℤ → ℕ → LevelEdge Place
 listEdges s i = listEdge filmPlaces (apartAt s) i (onFilm (edgeAt s i .film) (edgeAt s i .tail)) (onFilm (edgeAt s i .film) (edgeAt s i .head))
+
+-- a mark for each of n edges: 1 where the place of its top is apart, otherwise 0
+abbrev pub TopsMarked : List ℤ → ℕ → List ℕ → Type 0
+TopsMarked s n marks = (i : ℕ) → i < n → getD marks i 0 ≡ bit (listEdges s i .apart)
 
 abbrev pub isDone : End → Bool
 isDone Done = true

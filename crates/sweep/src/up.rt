@@ -9,16 +9,16 @@ ghost use mathlib.Core.Path.{_≡_};
 ghost use Prim.Native.Nat.{_+_, _*_, _≤_, _<_};
 ghost use lib.ListN.{length};
 ghost use Rattle.steps.specs.SweepUp.{sweepUp, start, levels};
-ghost use Rattle.sweep.specs.Slices.{lentRoom, edgeOf, listEdges, swept};
+ghost use Rattle.sweep.specs.Slices.{lentRoom, edgeOf, listEdges, TopsMarked, swept};
 ghost use Rattle.sheet.specs.Amounts.{numbersPerEdge};
 ghost use Rattle.steps.specs.Swept.{numbersPerRecord};
 
 // The levels that an edge of the list has above it.
 const LEVELS: u32 = 12;
 
-// An edge of the list, named by its place: rising length 1, falling length 0. No place of a list is apart.
-fn list_edge(edges: &[i32], i: usize) -> NamedEdge
-    requires { ⌜ numbersPerEdge * i + 4 < length (now edges) ⌝ }
+// An edge of the list, named by its place: rising length 1, falling length 0. Whether its top is apart was found beforehand.
+fn list_edge(edges: &[i32], i: usize, apart: bool) -> NamedEdge
+    requires { ⌜ (numbersPerEdge * i + 4 < length (now edges)) × (apart ≡ listEdges (now edges) i .apart) ⌝ }
     ensures { λ e. ⌜ (edgeOf e ≡ listEdges (now (edges .entry)) i) × (e .falling ≡ 0) ⌝ }
 {
     let edge = Edge::at(edges, i);
@@ -32,13 +32,19 @@ fn list_edge(edges: &[i32], i: usize) -> NamedEdge
         film,
         rising: 1,
         falling: 0,
-        apart: false,
+        apart,
     }
 }
 
-// The first n edges of the list, until one is not done.
-pub fn sweep_up(edges: &[i32], n: usize, journal: &mut [i32], rows: &mut [i32]) -> Swept
-    requires { ⌜ numbersPerEdge * n ≤ length (now edges) ⌝ }
+// The first n edges of the list, until one is not done. A mark tells whether an edge's top is apart.
+pub fn sweep_up(
+    edges: &[i32],
+    n: usize,
+    apart: &[u8],
+    journal: &mut [i32],
+    rows: &mut [i32],
+) -> Swept
+    requires { ⌜ (numbersPerEdge * n ≤ length (now edges)) × (n ≤ length (now apart)) × TopsMarked (now edges) n (now apart) ⌝ }
     ensures { λ w. ⌜ swept (now (rows .exit)) (now (journal .exit)) w ≡ sweepUp (lentRoom (now (rows .entry)) (now (journal .entry))) (listEdges (now (edges .entry))) (start 0 (now (rows .entry)) (now (journal .entry))) n ⌝ }
     ensures { λ w. ⌜ numbersPerRecord * w .progress .records ≤ length (now (journal .entry)) ⌝ }
 {
@@ -51,7 +57,8 @@ pub fn sweep_up(edges: &[i32], n: usize, journal: &mut [i32], rows: &mut [i32]) 
     let mut edge: usize = 0;
     let mut i: usize = 0;
     while i < n {
-        s = treating::treat(rows, journal, &mut marks, s, 0, LEVELS, list_edge(edges, i));
+        let next = list_edge(edges, i, apart[i] == 1);
+        s = treating::treat(rows, journal, &mut marks, s, 0, LEVELS, next);
         edge = i;
         if !s.is_done() {
             return Swept { progress: s, edge };

@@ -2,16 +2,13 @@
 use borrow.Author.Needs.{needs}
 use mathlib.Core.Path.{refl}
 use Rattle.laws.proofs.Bits.{read-back}
-use Rattle.sheet.specs.Edges.{drawingOf}
-use Rattle.sweep.specs.Slices.{apartAt}
 use Rattle.sweep.proofs.up.list_edge.Statement.{statement}
 use Rattle.sweep.proofs.up.list_edge.Tie as tie
 
 returns : tie.Need-returns
-unfolding apartAt drawingOf
 returns c =
     let edge = c .before .before .before .at in
-    rw (read-back (edge .result .film) (c .before .before .struct-told .given .1 .1 .0 .1), edge .ensures) (refl, refl)
+    rw (read-back (edge .result .film) (c .before .before .struct-told .given .1 .1 .0 .1), edge .ensures, c .before .before .before .before .pre .1) (refl, refl)
 
 pub list-edge-spec : {M : Type 1} → statement M
 list-edge-spec = tie.close (tie.spec (search needs) returns)
