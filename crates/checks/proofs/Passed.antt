@@ -50,6 +50,7 @@ pub record AllPassed (c : Call) : Type 0 where
   pub tails-in-range : (e : ℕ) → e < edgesIn (c .list) → inRange (edgeAt (c .list) e .tail) ≡ true
   pub heads-in-range : (e : ℕ) → e < edgesIn (c .list) → inRange (edgeAt (c .list) e .head) ≡ true
   pub films-in-range : (e : ℕ) → e < edgesIn (c .list) → isFilm (edgeAt (c .list) e .film) ≡ true
+  pub alternating : NoneBelow (notAlternating (drawingOf (c .list))) (edgesIn (c .list))
   pub sheet : Checked (drawingOf (c .list))
 
 -- 5, 16, 6 and 7 are not given
@@ -140,6 +141,7 @@ all-passed c (no-row p a) =
       tails-in-range = tail-in E;
       heads-in-range = head-in E;
       films-in-range = film-in E;
+      alternating = a;
       sheet = sheet-checked c (few c l) p a;
     }
 

@@ -18,7 +18,7 @@ use Rattle.sheet.specs.declared.Check.{Check}
 use Rattle.sheet.specs.declared.Check.the-variants as check
 use Rattle.sheet.specs.Edges.{edgesIn}
 use Rattle.sheet.specs.Answers.{Call, checked, answered, numberOf, zeros}
-use Rattle.checks.proofs.AnswerSheet.{Row, row-1, row-2, row-3, row-4, row-5, row-16, row-6, row-7, row-8, row-9, no-row, row}
+use Rattle.checks.proofs.AnswerSheet.{Row, row-1, row-2, row-3, row-4, row-5, row-16, row-6, row-7, row-8, row-9, row-17, no-row, row}
 use Rattle.steps.specs.declared.End.{End}
 use Rattle.steps.specs.declared.End.the-variants.{Done, NoFreeRow, Overrun}
 use Rattle.steps.specs.SweepUp.{start}
@@ -128,7 +128,8 @@ no-ten (row-6 a b d e f) = refl
 no-ten (row-7 a b d e f g) = refl
 no-ten (row-8 a b d) = refl
 no-ten (row-9 a b d e) = refl
-no-ten (no-row a b d e) = refl
+no-ten (row-17 a b) = refl
+no-ten (no-row a b) = refl
 
 pub never-ten : (c : Call) {r : Refusal} → checked c ≡ check.Refused r → eqb (numberOf r) 10 ≡ false
 never-ten c e = ap isTen (sym e) ∙ no-ten (row c)

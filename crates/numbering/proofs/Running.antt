@@ -28,12 +28,13 @@ use Rattle.steps.specs.Swept.{rowsIn, plainRoom, drawnEdge, freeRows, noRecords
 use Rattle.steps.proofs.Alike.{Match, Alike, AlikeSweep, start-alike, sweep-alike}
 use Rattle.steps.proofs.AlikeDown.{MatchDown, AlikeReading, down-alike}
 use Rattle.journal.specs.Layout.{recordSlice, recordsIn}
-use Rattle.sweep.specs.Slices.{room, apartAt, listEdges}
+use Rattle.sweep.specs.Slices.{room, listEdges}
 use Rattle.sweep.specs.Lookup.{numbersIn, tables, reading}
 use Rattle.hartley.proofs.results.Results as results
 use Rattle.numbering.specs.Outcome.{Lent, callOf, leftAs, up, down, answerBy, leaves, outcome}
 use Rattle.numbering.specs.OnSlices as slices
 use Rattle.numbering.specs.OnSlices.{inJournal, wholeJournal, afterSweep, sweepsOn}
+use Rattle.numbering.proofs.Tops.{top-apart}
 use Rattle.numbering.proofs.Matching.{Ranked, HoldsRows, HoldsRecords, sliceRoom, matched}
 use Rattle.numbering.proofs.MatchingDown.{HoldsNumbers, HoldsAnswers, matched-down, fitting}
 use Rattle.sheet.specs.Amounts.{journalNumbersPerEdge, mostEdges}
@@ -103,10 +104,10 @@ module _ (l : Lent) (ok : checked (callOf l) ≡ Passed) where
       (record { long = omega arith; entry = λ i h. absurd (omega arith); number = λ i q h u. absurd (omega arith) })
 
   alike : AlikeSweep M (slices.sweptUp (inJournal l)) (up l)
-  unfolding slices.sweptUp up room sweptTo drawingOf apartAt
+  unfolding slices.sweptUp up room sweptTo drawingOf
   alike =
       sweep-alike M (listEdges (l .list)) (drawnEdge sheet) edges
-      (λ i h. record { name = refl; small = omega (arith, h, all .few); tail = record { inside = all .tails-in-range i h; on-film = all .films-in-range i h; is-place = refl }; head = record { inside = all .heads-in-range i h; on-film = all .films-in-range i h; is-place = refl }; one-film = refl; length = refl; apart = refl })
+      (λ i h. record { name = refl; small = omega (arith, h, all .few); tail = record { inside = all .tails-in-range i h; on-film = all .films-in-range i h; is-place = refl }; head = record { inside = all .heads-in-range i h; on-film = all .films-in-range i h; is-place = refl }; one-film = refl; length = refl; apart = top-apart all i h })
       same-start
 
   -- the theory's run is this one

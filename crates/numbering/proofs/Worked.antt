@@ -1,4 +1,4 @@
--- The sheets of document 01 that are marked there, with the peaks that M-103 gives them, and sheets of several films, worked by the numbering's own definition: one table, one test that is
+-- The sheets of document 01 that are marked there, with the peaks that M-103 gives them, sheets of several films and with corners apart, worked by the numbering's own definition: one table, one test that is
 -- computed over all of it. With three of them, engines that cannot keep the promise: for each a short refutation. With two, what demand 3 asks for is met.
 use Prim.Native.Nat.{ℕ, _+_, _-_, _*_, _/_, _≤_}
 use mathlib.Core.Path.{_≡_, refl, sym, ap, _∙_}
@@ -16,15 +16,17 @@ use Rattle.sheet.specs.declared.Refusal.{Refusal}
 use Rattle.sheet.specs.declared.Refusal.the-variants.{NoRow}
 use Rattle.sheet.specs.Points as points
 use Rattle.sheet.specs.Rank as ranks
+use Rattle.sheet.specs.Turning as turning
 use Rattle.sheet.specs.Edges as edges
 use Rattle.sheet.specs.Edges.{drawingOf, topHeight}
 use Rattle.sheet.specs.Passing as passings
 use Rattle.sheet.specs.Passing.{passing, Most}
 use Rattle.sheet.specs.Kinds as kinds
+use Rattle.sheet.specs.Corners as corners
 use Rattle.sheet.specs.Answers as answers
 use Rattle.sheet.specs.Answers.{numberOf, placeOf}
 use Rattle.sheet.proofs.WorkedRows as worked
-use Rattle.sheet.proofs.Drawn.{triangle, twoEdges, square, twoPeaks, touching, threePairs, sharedSide, sideTwice, oneTop, oneTopAround, touchingFilms}
+use Rattle.sheet.proofs.Drawn.{triangle, twoEdges, square, twoPeaks, touching, threePairs, sharedSide, sideTwice, oneTop, oneTopAround, touchingFilms, twoPixels, crossing}
 use Rattle.steps.specs.Rows as rows
 use Rattle.steps.specs.SweepUp as up
 use Rattle.steps.specs.SweepDown as down
@@ -141,7 +143,7 @@ one-row-for-two-peaks = refused twoPeaks 1 10 1
 three-pairs : Expected
 three-pairs = accepted threePairs 1 3 1 9 (3 ∷ 3 ∷ 2 ∷ 2 ∷ 1 ∷ 1 ∷ []) (1 ∷ 0 ∷ 1 ∷ 0 ∷ 1 ∷ 0 ∷ [])
 
--- 01's marked sheets, sheets of two films, and one for each refusal
+-- 01's marked sheets, sheets of two films, 02's two pixels, and one for each refusal
 sheets : List Expected
 sheets =
     empty
@@ -156,6 +158,7 @@ sheets =
     ∷ accepted oneTop 1 2 1 6 (2 ∷ 2 ∷ 1 ∷ 1 ∷ []) (1 ∷ 0 ∷ 1 ∷ 0 ∷ [])
     ∷ accepted oneTopAround 2 2 2 6 (1 ∷ 2 ∷ 2 ∷ 1 ∷ []) (1 ∷ 1 ∷ 0 ∷ 0 ∷ [])
     ∷ accepted touchingFilms 3 2 3 11 (2 ∷ 2 ∷ 1 ∷ 2 ∷ 2 ∷ 1 ∷ 1 ∷ []) (1 ∷ 2 ∷ 1 ∷ 3 ∷ 0 ∷ 2 ∷ 0 ∷ [])
+    ∷ accepted twoPixels 2 2 2 10 (2 ∷ 1 ∷ 2 ∷ 2 ∷ 2 ∷ 1 ∷ 1 ∷ 1 ∷ []) (2 ∷ 2 ∷ 1 ∷ 3 ∷ 0 ∷ 1 ∷ 3 ∷ 0 ∷ [])
     ∷ refused (0 ∷ 0 ∷ 4 ∷ []) 1 1 0
     ∷ refusedWith (replicate (numbersPerEdge * 4097) 0) 0 0 0 0 0 2 0
     ∷ refusedWith triangle 2 3 3 24 1 3 0
@@ -169,6 +172,7 @@ sheets =
     ∷ refused (0 ∷ 0 ∷ 4 ∷ 2 ∷ 0 ∷ triangle) 1 8 1
     ∷ refused sideTwice 2 8 3
     ∷ refused (0 ∷ 0 ∷ 4 ∷ 2 ∷ 0 ∷ 4 ∷ 2 ∷ 1 ∷ 5 ∷ 0 ∷ []) 1 9 0
+    ∷ refused (crossing 0) 0 17 1
     ∷ []
 
 -- the top of the triangle's first edge
@@ -220,11 +224,25 @@ unfolding
     ranks.shift
     ranks.rank
     ranks.placeOn
+    turning.sign
+    turning.towards
+    turning.cross
+    turning.turn
+    turning.sameWay
+    turning.sooner
     edges.edgeAt
     edges.edgesIn
     edges.drawingOf
     kinds.comes
     kinds.numberAt
+    corners.four
+    corners.ofKind
+    corners.cornerAt
+    corners.twoInOne
+    corners.leavingFirst
+    corners.alternate
+    corners.lowerApart
+    corners.apart
     answers.notWhole
     answers.tooMany
     answers.listsDiffer
@@ -237,6 +255,8 @@ unfolding
     answers.repeats
     answers.differ
     answers.uneven
+    answers.tangled
+    answers.notAlternating
     answers.checked
     rows.lowestFree
     up.foundBelow

@@ -9,7 +9,11 @@ ghost use lib.ListN.{length};
 ghost use Rattle.numbering.specs.OnSlices.{fitted, sweeps, sweepsOn};
 ghost use Rattle.numbering.specs.Outcome.{lent, leftAs};
 ghost use Rattle.numbering.specs.Promised.{Promised};
+ghost use Rattle.sweep.specs.Slices.{TopsMarked};
 ghost use Rattle.sheet.specs.Amounts.{numbersPerEdge, journalNumbersPerEdge, mostEdges};
+
+// The most edges that a list holds.
+const MOST_EDGES: usize = Edge::MOST;
 
 // Gives every edge its polygon number and its place round the polygon, or says why not.
 // Takes every list and every size of the lent slices, and the length of the turn list that a caller goes on to fill, which 3 compares too.
@@ -24,27 +28,37 @@ pub fn number(
 ) -> Answer
     ensures { λ r. ⌜ Promised (lent (now (edges .entry)) (now (polygons .entry)) (now (sequences .entry)) turns (now (journal .entry)) (now (rows .entry))) (leftAs r (now (polygons .exit)) (now (sequences .exit)) (now (journal .exit)) (now (rows .exit))) ⌝ }
 {
-    let checked = checks::check(edges, polygons.len(), sequences.len(), turns, journal.len());
+    let mut apart = [0u8; MOST_EDGES];
+    let checked = checks::check(
+        edges,
+        polygons.len(),
+        sequences.len(),
+        turns,
+        journal.len(),
+        &mut apart,
+    );
     match checked {
         Check::Refused(refusal) => Answer::Refused(refusal),
-        Check::Passed => number_checked(edges, polygons, sequences, journal, rows),
+        Check::Passed => number_checked(edges, &apart, polygons, sequences, journal, rows),
     }
 }
 
-// A list that passed its checks: the sweeps work in the journal's first numbers, and the rest of it is set to zero.
+// A list that passed its checks, with the marks that they left: the sweeps work in the journal's first numbers, and the rest of it is set to zero.
 fn number_checked(
     edges: &[i32],
+    apart: &[u8],
     polygons: &mut [u32],
     sequences: &mut [u32],
     journal: &mut [i32],
     rows: &mut [i32],
 ) -> Answer
-    requires { ⌜ (length (now edges) / numbersPerEdge ≤ mostEdges) × (journalNumbersPerEdge * (length (now edges) / numbersPerEdge) ≤ length (now journal)) ⌝ }
+    requires marks { ⌜ (length (now apart) ≡ mostEdges) × TopsMarked (now edges) (length (now edges) / numbersPerEdge) (now apart) ⌝ }
+    requires lengths { ⌜ (length (now edges) / numbersPerEdge ≤ mostEdges) × (journalNumbersPerEdge * (length (now edges) / numbersPerEdge) ≤ length (now journal)) ⌝ }
     ensures { λ r. ⌜ leftAs r (now (polygons .exit)) (now (sequences .exit)) (now (journal .exit)) (now (rows .exit)) ≡ sweepsOn (fitted (now (edges .entry)) (now (polygons .entry)) (now (sequences .entry)) (now (journal .entry)) (now (rows .entry))) ⌝ }
 {
     let n = edges.len() / Edge::NUMBERS;
     let used = Edge::JOURNAL_NUMBERS * n;
-    let answer = sweep_both(edges, polygons, sequences, &mut journal[..used], rows);
+    let answer = sweep_both(edges, apart, polygons, sequences, &mut journal[..used], rows);
     journal::zero_from(journal, 2 * n);
     answer
 }
@@ -52,16 +66,18 @@ fn number_checked(
 // The two sweeps, and what they leave. An end that is not done gives up the row table and the journal.
 fn sweep_both(
     edges: &[i32],
+    apart: &[u8],
     polygons: &mut [u32],
     sequences: &mut [u32],
     journal: &mut [i32],
     rows: &mut [i32],
 ) -> Answer
-    requires { ⌜ (length (now edges) / numbersPerEdge ≤ mostEdges) × (length (now journal) ≡ journalNumbersPerEdge * (length (now edges) / numbersPerEdge)) ⌝ }
+    requires marks { ⌜ (length (now apart) ≡ mostEdges) × TopsMarked (now edges) (length (now edges) / numbersPerEdge) (now apart) ⌝ }
+    requires lengths { ⌜ (length (now edges) / numbersPerEdge ≤ mostEdges) × (length (now journal) ≡ journalNumbersPerEdge * (length (now edges) / numbersPerEdge)) ⌝ }
     ensures { λ r. ⌜ leftAs r (now (polygons .exit)) (now (sequences .exit)) (now (journal .exit)) (now (rows .exit)) ≡ sweeps (fitted (now (edges .entry)) (now (polygons .entry)) (now (sequences .entry)) (now (journal .entry)) (now (rows .entry))) ⌝ }
 {
     let n = edges.len() / Edge::NUMBERS;
-    let swept = sweep::up::sweep_up(edges, n, journal, rows);
+    let swept = sweep::up::sweep_up(edges, n, apart, journal, rows);
     let edge = swept.edge;
     let progress = swept.progress;
     if !progress.is_done() {

@@ -9,8 +9,10 @@ use Rattle.laws.specs.Counting as counting
 use Rattle.laws.specs.Listing as listing
 use Rattle.sheet.specs.Points as points
 use Rattle.sheet.specs.Rank as ranks
+use Rattle.sheet.specs.Turning as turning
 use Rattle.sheet.specs.Edges as edges
 use Rattle.sheet.specs.Kinds as kinds
+use Rattle.sheet.specs.Corners as corners
 use Rattle.sheet.specs.Answers as answers
 use Rattle.steps.specs.Rows as rows
 use Rattle.steps.specs.SweepUp as up
@@ -87,11 +89,25 @@ unfolding
     ranks.shift
     ranks.rank
     ranks.placeOn
+    turning.sign
+    turning.towards
+    turning.cross
+    turning.turn
+    turning.sameWay
+    turning.sooner
     edges.edgeAt
     edges.edgesIn
     edges.drawingOf
     kinds.comes
     kinds.numberAt
+    corners.four
+    corners.ofKind
+    corners.cornerAt
+    corners.twoInOne
+    corners.leavingFirst
+    corners.alternate
+    corners.lowerApart
+    corners.apart
     answers.notWhole
     answers.tooMany
     answers.listsDiffer
@@ -104,6 +120,8 @@ unfolding
     answers.repeats
     answers.differ
     answers.uneven
+    answers.tangled
+    answers.notAlternating
     answers.checked
     rows.lowestFree
     up.foundBelow

@@ -11,14 +11,19 @@ use borrow.Author.Needs.{needs}
 use Rattle.numbering.proofs.sweep_both.Statement.{statement}
 use Rattle.numbering.proofs.sweep_both.Tie as tie
 
-cast-t25 : tie.Need-cast-t25
+sweep-up-requires : tie.Need-sweep-up-requires
+sweep-up-requires c κs =
+    let s = c .before .before .before .before .before in
+    (omega arith, omega (arith, s .pre .0 .0, s .pre .1 .0), s .pre .0 .1)
+
+cast-t26 : tie.Need-cast-t26
 unfolding sweptUp edgesIn
-cast-t25 c =
+cast-t26 c =
     let c₁₁ = c .before .before .before .before .before .before .before .before .before .before .before in
-    let c₁₆ = c₁₁ .before .before .before .before .before in
-    let a = c₁₆ .args in
+    let c₁₇ = c₁₁ .before .before .before .before .before .before in
+    let a = c₁₇ .args in
     let l = fitted (now (a .edges)) (now (a .polygons)) (now (a .sequences)) (now (a .journal)) (now (a .rows)) in
-    record { fits = omega (arith, ap (λ w. w .edge) (c₁₁ .sweep-up .ensures .0), leaving.edge-fits l (c₁₆ .pre .0) (c₁₆ .pre .1)) }
+    record { fits = omega (arith, ap (λ w. w .edge) (c₁₁ .sweep-up .ensures .0), leaving.edge-fits l (c₁₇ .pre .1 .0) (c₁₇ .pre .1 .1)) }
 
 returns : tie.Need-returns
 unfolding sweptUp edgesIn
@@ -30,36 +35,36 @@ returns c =
     let c₉ = c₇ .before .before in
     let c₁₀ = c₉ .before in
     let c₁₁ = c₁₀ .before in
-    let c₁₆ = c₁₁ .before .before .before .before .before in
-    let a = c₁₆ .args in
+    let c₁₇ = c₁₁ .before .before .before .before .before .before in
+    let a = c₁₇ .args in
     let l = fitted (now (a .edges)) (now (a .polygons)) (now (a .sequences)) (now (a .journal)) (now (a .rows)) in
     leaving.when-stopped l (c₁₁ .sweep-up .ensures .0) (c₁₀ .journal .given) (sym (c₇ .is-done .ensures) ∙ not-true _ (c₆ .if1 .taken)) (c₉ .rows .given) (c₄ .zero-from .ensures) (c₁ .clear .ensures)
 
-cast-t40 : tie.Need-cast-t40
+cast-t41 : tie.Need-cast-t41
 unfolding sweptUp edgesIn
-cast-t40 c =
+cast-t41 c =
     let c₁₁ = c .before .before .before .before .before .before .before .before .before .before .before in
     let c₁₆ = c₁₁ .before .before .before .before .before in
     let c₁₇ = c₁₆ .before in
     let c₂₀ = c₁₇ .before .before .before in
     let c₂₁ = c₂₀ .before in
-    let c₂₆ = c₂₁ .before .before .before .before .before in
-    let a = c₂₆ .args in
+    let c₂₇ = c₂₁ .before .before .before .before .before .before in
+    let a = c₂₇ .args in
     let l = fitted (now (a .edges)) (now (a .polygons)) (now (a .sequences)) (now (a .journal)) (now (a .rows)) in
-    record { fits = omega (arith, leaving.count-fits l (c₂₁ .sweep-up .ensures .0) (c₂₀ .journal .given) (is-done-end _ (sym (c₁₇ .is-done .ensures) ∙ not-false _ (c₁₆ .if1 .left))) (c₂₁ .sweep-up .ensures .1) (c₁₁ .sweep-down .ensures), ap (λ w. w .state .records) (c₂₁ .sweep-up .ensures .0), leaving.records-fit l (c₂₆ .pre .0) (c₂₆ .pre .1)) }
+    record { fits = omega (arith, leaving.count-fits l (c₂₁ .sweep-up .ensures .0) (c₂₀ .journal .given) (is-done-end _ (sym (c₁₇ .is-done .ensures) ∙ not-false _ (c₁₆ .if1 .left))) (c₂₁ .sweep-up .ensures .1) (c₁₁ .sweep-down .ensures), ap (λ w. w .state .records) (c₂₁ .sweep-up .ensures .0), leaving.records-fit l (c₂₇ .pre .1 .0) (c₂₇ .pre .1 .1)) }
 
-cast-t41 : tie.Need-cast-t41
+cast-t42 : tie.Need-cast-t42
 unfolding sweptUp edgesIn
-cast-t41 c =
+cast-t42 c =
     let c₁₆ = c .before .before .before .before .before .before .before .before .before .before .before .before .before .before .before .before in
     let c₁₇ = c₁₆ .before in
     let c₂₁ = c₁₇ .before .before .before .before in
-    let c₂₆ = c₂₁ .before .before .before .before .before in
-    let a = c₂₆ .args in
+    let c₂₇ = c₂₁ .before .before .before .before .before .before in
+    let a = c₂₇ .args in
     let l = fitted (now (a .edges)) (now (a .polygons)) (now (a .sequences)) (now (a .journal)) (now (a .rows)) in
     let e = c₂₁ .sweep-up .ensures .0 in
     let d = is-done-end _ (sym (c₁₇ .is-done .ensures) ∙ not-false _ (c₁₆ .if1 .left)) in
-    record { fits = omega (arith, ap (λ w. w .state .peak) e, leaving.peak-fits l (c₂₆ .pre .0) (c₂₆ .pre .1) (sym (ap (λ w. w .state .end) e) ∙ d)) }
+    record { fits = omega (arith, ap (λ w. w .state .peak) e, leaving.peak-fits l (c₂₇ .pre .1 .0) (c₂₇ .pre .1 .1) (sym (ap (λ w. w .state .end) e) ∙ d)) }
 
 returns-2 : tie.Need-returns-2
 unfolding sweptUp edgesIn
@@ -73,8 +78,8 @@ returns-2 c =
     let c₁₉ = c₁₇ .before .before in
     let c₂₀ = c₁₉ .before in
     let c₂₁ = c₂₀ .before in
-    let c₂₆ = c₂₁ .before .before .before .before .before in
-    let a = c₂₆ .args in
+    let c₂₇ = c₂₁ .before .before .before .before .before .before in
+    let a = c₂₇ .args in
     let l = fitted (now (a .edges)) (now (a .polygons)) (now (a .sequences)) (now (a .journal)) (now (a .rows)) in
     leaving.when-done l (c₂₁ .sweep-up .ensures .0) (c₂₀ .journal .given) (is-done-end _ (sym (c₁₇ .is-done .ensures) ∙ not-false _ (c₁₆ .if1 .left))) (c₂₁ .sweep-up .ensures .1) (c₁₁ .sweep-down .ensures) (c₁₀ .rows3 .given ∙ c₁₉ .rows .given) (c₄ .zero-from2 .ensures) (c₁ .clear2 .ensures)
 
@@ -82,8 +87,8 @@ pub sweep-both-spec : {M : Type 1} → statement M
 sweep-both-spec =
     tie.close
     (tie.spec
-    (search needs) (search needs) (search needs) (search needs) cast-t25
+    sweep-up-requires (λ c κs. search needs) (λ c κs. search needs) (λ c κs. search needs) cast-t26
     (search needs) (search needs) returns
-    (search needs) (search needs) (search needs) cast-t40
-    cast-t41
+    (search needs) (search needs) (search needs) cast-t41
+    cast-t42
     (search needs) (search needs) (search needs) (search needs) (search needs) returns-2)
