@@ -7,7 +7,7 @@ use native.Mathlib.Omega.{arith}
 use Rattle.sheet.specs.declared.Answer.{Answer}
 use Rattle.sheet.specs.declared.Answer.the-variants as answer
 use Rattle.sheet.specs.declared.Refusal.{Refusal}
-use Rattle.sheet.specs.declared.Refusal.the-variants.{NotWhole, TooMany, ListsDiffer, JournalShort, PastRange, FilmPastRange, EqualEnds, TopFalls, Repeated, Uneven, NoRow}
+use Rattle.sheet.specs.declared.Refusal.the-variants.{NotWhole, TooMany, ListsDiffer, JournalShort, PastRange, FilmPastRange, EqualEnds, TopFalls, Repeated, Uneven, NotAlternating, NoRow}
 use Rattle.sheet.specs.Answers.{numberOf}
 use Rattle.sheet.specs.declared.TurnRefusal.{TurnRefusal}
 use Rattle.sheet.specs.declared.TurnRefusal.the-variants.{TurnLengths, NoPolygon, PairRepeated, Gap}
@@ -52,6 +52,7 @@ sheet-refused (EqualEnds e) q = omega arith
 sheet-refused (TopFalls e) q = omega arith
 sheet-refused (Repeated e) q = omega arith
 sheet-refused (Uneven e) q = omega arith
+sheet-refused (NotAlternating e) q = omega arith
 sheet-refused (NoRow e) q = omega arith
 
 -- refusal 0 is an accepted answer, with these polygons

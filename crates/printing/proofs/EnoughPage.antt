@@ -16,11 +16,11 @@ use Rattle.sheet.specs.declared.Answer.the-variants.{Accepted, Refused}
 use Rattle.sheet.specs.declared.Check.{Check}
 use Rattle.sheet.specs.declared.Check.the-variants as check
 use Rattle.sheet.specs.declared.Refusal.{Refusal}
-use Rattle.sheet.specs.declared.Refusal.the-variants.{NotWhole, TooMany, ListsDiffer, JournalShort, PastRange, FilmPastRange, EqualEnds, TopFalls, Repeated, Uneven, NoRow}
+use Rattle.sheet.specs.declared.Refusal.the-variants.{NotWhole, TooMany, ListsDiffer, JournalShort, PastRange, FilmPastRange, EqualEnds, TopFalls, Repeated, Uneven, NotAlternating, NoRow}
 use Rattle.sheet.specs.Edges.{edgesIn, drawingOf}
 use Rattle.sheet.specs.Answers.{Call, numberOf, placeOf, checked, answered}
 use Rattle.sheet.proofs.Outlines.{sequence-small}
-use Rattle.checks.proofs.AnswerSheet.{Row, row, row-1, row-2, row-3, row-4, row-5, row-16, row-6, row-7, row-8, row-9, no-row}
+use Rattle.checks.proofs.AnswerSheet.{Row, row, row-1, row-2, row-3, row-4, row-5, row-16, row-6, row-7, row-8, row-9, row-17, no-row}
 use Rattle.checks.proofs.Passed.{passed}
 use Rattle.steps.specs.Swept.{rowsIn}
 use Rattle.text.specs.declared.Reading.{Reading}
@@ -82,6 +82,7 @@ small-number (EqualEnds e) = omega arith
 small-number (TopFalls e) = omega arith
 small-number (Repeated e) = omega arith
 small-number (Uneven e) = omega arith
+small-number (NotAlternating e) = omega arith
 small-number (NoRow e) = omega arith
 
 -- a refusal's place is 0 or an edge
@@ -100,7 +101,8 @@ place-is-edge (row-6 l f p o q) = omega (arith, f .is-edge)
 place-is-edge (row-7 l f p o q t) = omega (arith, f .is-edge)
 place-is-edge (row-8 l f h) = omega (arith, h .is-edge)
 place-is-edge (row-9 l f r h) = omega (arith, h .is-edge)
-place-is-edge (no-row l f r u) = omega arith
+place-is-edge (row-17 p h) = omega (arith, h .is-edge)
+place-is-edge (no-row p a) = omega arith
 
 module _ (l : Lent) where
   leaves-answer : (a : Answer) → leaves l a .answer ≡ a
