@@ -17,3 +17,4 @@ pub mod RowsEnough
 pub mod Drawn
 pub mod WorkedRows
 pub mod WorkedRefusals
+pub mod WorkedCorners
