@@ -1,5 +1,5 @@
 //! Sheets for tests: every maker here gives an edge list that is sound and in
-//! sweep order by document 01, with edges of equal tops in random order, in one
+//! sweep order by document 01, four edges of a film alternating by M-104, with edges of equal tops in random order, in one
 //! film or several. All chance comes from a `Random`, whose seed is printed when
 //! a test fails. `damage` and `spoil_cutting` spoil a call so that a chosen refusal
 //! must come.
@@ -14,6 +14,7 @@ mod random;
 mod saws;
 mod sound;
 mod soups;
+mod twists;
 mod walks;
 
 pub use cuts::{any_cutting, cutting, spoil_cutting};
@@ -32,7 +33,7 @@ pub type Sheet = Vec<i32>;
 
 /// A small sheet of any shape: at most some three hundred edges, mostly far
 /// fewer, now and then none, in one film to five, in half of the cases with some
-/// of its outlines run the other way, at times pushed into a corner of the range.
+/// of its parts run the other way, at times pushed into a corner of the range.
 pub fn any(random: &mut Random) -> Sheet {
     let films = some_films(random);
     let mut sheet = any_shape(random, &films);
