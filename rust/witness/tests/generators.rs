@@ -7,7 +7,9 @@ use std::collections::BTreeSet;
 
 use witness::checks::{checked, Lengths};
 use witness::declared;
-use witness::generate::{any, comb, in_films, in_sweep_order, layered, mosaic, moved, patchwork};
+use witness::generate::{
+    any, chessboard, comb, in_films, in_sweep_order, layered, mosaic, moved, patchwork,
+};
 use witness::generate::{pixels, saw, saws, some_films, spiral, squares, turned_round, walks};
 use witness::generate::{Random, Sheet};
 use witness::geometry::{read_edges, twice_area, Edge, Point, NUMBERS_PER_EDGE};
@@ -78,6 +80,7 @@ fn shapes_have_the_edges_they_claim() {
     assert_eq!(edges(comb(random, 7)), 28);
     assert_eq!(edges(spiral(random, 9)), 18);
     assert_eq!(edges(squares(random, 3, 5)), 60);
+    assert_eq!(edges(chessboard(random, 3, 5)), 32);
     assert_eq!(edges(saw(random, 11)), 4094);
     assert_eq!(edges(patchwork(random, 32, 32)), 4096);
     for sheet in [comb(random, 7), spiral(random, 9), saw(random, 4)] {
@@ -85,6 +88,10 @@ fn shapes_have_the_edges_they_claim() {
     }
     let grid = read_edges(&squares(random, 3, 5));
     assert_eq!(declared::outlines(&grid).len(), 15);
+    let board = read_edges(&chessboard(random, 3, 5));
+    assert_eq!(declared::outlines(&board).len(), 8);
+    assert_eq!(declared::touching_sites(&board).len(), 2 * 4);
+    assert_eq!(declared::apart_sites(&board).len(), 4);
 }
 
 #[test]

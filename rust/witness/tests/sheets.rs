@@ -7,7 +7,9 @@ use std::ops::Range;
 use witness::call::{Call, Outcome, TurnCall};
 use witness::corners::Meetings;
 use witness::declared;
-use witness::generate::{any, comb, in_films, layered, mosaic, patchwork, pixels, saw, soup};
+use witness::generate::{
+    any, chessboard, comb, in_films, layered, mosaic, patchwork, pixels, saw, soup,
+};
 use witness::generate::{some_films, spiral, squares, turned_round, walks, Random, Seed, Sheet};
 use witness::geometry::{read_edges, Edge, Point, Site};
 use witness::steps::{sweep_down, sweep_up};
@@ -298,6 +300,8 @@ fn large_sheets() {
     assert_eq!(check_seeds(4..5, make).largest, 4096);
     let make = |random: &mut Random| squares(random, 32, 32);
     assert_eq!(check_seeds(5..6, make).largest, 4096);
+    let make = |random: &mut Random| chessboard(random, 45, 45);
+    assert_eq!(check_seeds(5..6, make).apart_points, 44 * 22);
     let make = |random: &mut Random| pixels(random, 52, 52, 50, false);
     assert!(check_seeds(6..8, make).touching_points > 400);
     let make = |random: &mut Random| soup(random, 1, 4096, 1_000_000, &[255]);

@@ -19,10 +19,10 @@ mod walks;
 
 pub use cuts::{any_cutting, cutting, spoil_cutting};
 pub use damage::{damage, damaged};
-pub use drawn::{comb, spiral, squares};
+pub use drawn::{chessboard, comb, spiral, squares};
 pub use films::{in_films, layered, some_films};
 pub use order::{in_sweep_order, moved, turned_round};
-pub use pixels::{mosaic, patchwork, pixels};
+pub use pixels::{mosaic, of_bitmap, patchwork, pixels, Bitmap};
 pub use random::{Random, Seed};
 pub use saws::{saw, saws};
 pub use soups::soup;
@@ -85,7 +85,7 @@ fn any_pixels(random: &mut Random, films: &[i32]) -> Sheet {
 
 /// One of the shapes drawn by rule.
 fn any_drawn(random: &mut Random, size: usize) -> Sheet {
-    match random.below(5) {
+    match random.below(6) {
         0 => comb(random, size),
         1 => spiral(random, 2 * size),
         2 => saw(random, size as u32),
@@ -93,6 +93,7 @@ fn any_drawn(random: &mut Random, size: usize) -> Sheet {
             let outlines: Vec<Vec<usize>> = (0..size).map(|_| some_teeth(random)).collect();
             saws(random, &outlines)
         }
+        4 => chessboard(random, size, 8 - size),
         _ => squares(random, size, 7 - size),
     }
 }
