@@ -233,7 +233,7 @@ fn the_largest_sheets_of_every_shape() {
         chessboard(random, 2, 1_023),
         pixels(random, 52, 52, 50, false),
         soup(random, 1, 4_096, 1_000_000, &[0]),
-        walks(random, 26, 2_000, &[0]),
+        walks(random, 32, 2_000, &[0]),
         walks(random, 8, 2_000, &all_films),
         mosaic(random, 31, 31, &all_films, false),
         patchwork(random, 32, 32),
