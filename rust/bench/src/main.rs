@@ -1,5 +1,5 @@
 //! How long the engine takes, beside the witness's steps and joining by a hash
-//! map with the same checks: six shapes in four sizes, printed as tables in
+//! map with the same checks: seven shapes in four sizes, printed as tables in
 //! Markdown. The best of many runs counts; clearing the lent slices is part of
 //! the engine's call. And all instructions of the largest sheets, beside plain
 //! Rust with the same checks.

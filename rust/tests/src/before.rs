@@ -117,7 +117,7 @@ fn on_one_another(random: &mut Random) -> Sheet {
 
 fn side_by_side(random: &mut Random) -> Sheet {
     let (films, merged) = (some_films(random), random.one_in(2));
-    mosaic(random, 4, 4, &films, merged)
+    mosaic(random, 4, 3, &films, merged)
 }
 
 fn any_patchwork(random: &mut Random) -> Sheet {

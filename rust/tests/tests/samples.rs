@@ -59,17 +59,18 @@ fn the_pictures() {
 }
 
 /// A face in film 0 and a scarf in film 1, which share the three sides of the
-/// neck. The earring touches the face corner to corner and is an outline of its
-/// own; so do pixels of the face at the corners of the mouth, which is one hole.
+/// neck. The two pixels of the earring hang on the face and on one another corner
+/// to corner, and are outlines of their own; pixels of the face touch so at the
+/// corners of the mouth, which is one hole.
 #[test]
 fn the_portrait() {
     let portrait = sheet("portrait.txt");
     let edges = read_edges(&portrait);
     let outlines = Outlines::of(&portrait).unwrap();
-    assert_eq!(outlines.count(), 10);
-    assert_eq!(touching_sites(&edges).len(), 5);
+    assert_eq!(outlines.count(), 11);
+    assert_eq!(touching_sites(&edges).len(), 6);
     let lengths = (1..=outlines.count()).map(|number| outlines.places(number).len());
-    assert_eq!(lengths.filter(|length| *length == 4).count(), 3);
+    assert_eq!(lengths.filter(|length| *length == 4).count(), 4);
     let bitmap = bytes("portrait.pixels");
     for (film, mark) in [(0, b'0'), (1, b'1')] {
         let pixels = bitmap.iter().filter(|byte| **byte == mark).count();
