@@ -128,7 +128,11 @@ typedef struct {
  *   edges      five numbers an edge, in sweep order: no edge has its higher end
  *              below that of the edge before it, a point being higher by y and
  *              at equal y by x, whatever the films. Edges meet only within a
- *              film: neighbours of two films may share whole sides. Unchanged.
+ *              film: neighbours of two films may share whole sides. Film lies
+ *              to the left of each edge: where four edges of a film meet, an
+ *              arriving edge is followed by the leaving edge first met turning
+ *              clockwise from the way it came, so that two pixels which touch
+ *              corner to corner are two outlines. Unchanged.
  *   polygons   one number an edge: its outline, from 1. The outline with the
  *              highest top is number 1. Two films' outlines may have the same
  *              top: of the two edges that each has there, take the later one in

@@ -14,21 +14,23 @@ fn run_back(sheet: &[i32]) -> Sheet {
     edges.flat_map(back).collect()
 }
 
-/// The two pixels of 02's example, each round its own film: the lower right one
-/// of film 0, the upper left one of this film.
+/// The two pixels of 02's example, each round its own film: the upper left one of
+/// this film, the lower right one of film 0.
 fn falling_pixels(upper_left: i32) -> Sheet {
-    let lower_right = 0;
-    let edges = [
-        [1, 0, 2, 0, lower_right],
-        [0, 1, 1, 1, upper_left],
-        [1, 1, 1, 0, lower_right],
-        [2, 0, 2, 1, lower_right],
-        [2, 1, 1, 1, lower_right],
-        [0, 2, 0, 1, upper_left],
-        [1, 1, 1, 2, upper_left],
-        [1, 2, 0, 2, upper_left],
-    ];
-    edges.concat()
+    let mut sheet = film_0(&[
+        [1, 0, 2, 0],
+        [0, 1, 1, 1],
+        [1, 1, 1, 0],
+        [2, 0, 2, 1],
+        [2, 1, 1, 1],
+        [0, 2, 0, 1],
+        [1, 1, 1, 2],
+        [1, 2, 0, 2],
+    ]);
+    for place in [1, 5, 6, 7] {
+        sheet[NUMBERS_PER_EDGE * place + 4] = upper_left;
+    }
+    sheet
 }
 
 /// Two pixels of which the upper one is to the right.
@@ -75,70 +77,37 @@ fn slivers() -> Sheet {
     ])
 }
 
+/// The pairs of so many edges.
+fn pairs<const N: usize>(polygons: [u32; N], sequences: [u32; N]) -> [Pair; N] {
+    std::array::from_fn(|place| (polygons[place], sequences[place]))
+}
+
 /// Two outlines that stay so at a corner, and one that goes twice through it when
 /// all is run the other way.
 fn pairs_of_pixels() -> [Worked; 6] {
-    let falling: [Pair; 8] = [
-        (2, 2),
-        (1, 2),
-        (2, 1),
-        (2, 3),
-        (2, 0),
-        (1, 1),
-        (1, 3),
-        (1, 0),
-    ];
-    let falling_back = [3, 5, 4, 2, 1, 6, 0, 7].map(|sequence| (1, sequence));
-    let in_films_back: [Pair; 8] = [
-        (2, 1),
-        (1, 1),
-        (2, 2),
-        (2, 0),
-        (2, 3),
-        (1, 2),
-        (1, 0),
-        (1, 3),
-    ];
-    let rising: [Pair; 8] = [
-        (2, 2),
-        (2, 1),
-        (2, 3),
-        (2, 0),
-        (1, 2),
-        (1, 1),
-        (1, 3),
-        (1, 0),
-    ];
-    let rising_back = [3, 4, 2, 5, 1, 6, 0, 7].map(|sequence| (1, sequence));
+    let falling = pairs([2, 1, 2, 2, 2, 1, 1, 1], [2, 2, 1, 3, 0, 1, 3, 0]);
+    let rising = pairs([2, 2, 2, 2, 1, 1, 1, 1], [2, 1, 3, 0, 2, 1, 3, 0]);
+    let falling_back = pairs([1; 8], [3, 5, 4, 2, 1, 6, 0, 7]);
+    let rising_back = pairs([1; 8], [3, 4, 2, 5, 1, 6, 0, 7]);
+    let in_films_back = pairs([2, 1, 2, 2, 2, 1, 1, 1], [1, 1, 2, 0, 3, 2, 0, 3]);
     let (one_film, two_films) = (falling_pixels(0), falling_pixels(1));
-    let back = [run_back(&one_film), run_back(&two_films)];
-    let [one_back, two_back] = back;
-    let rising_run_back = run_back(&rising_pixels());
+    let (one_back, two_back) = (run_back(&one_film), run_back(&two_films));
+    let (up, up_back) = (rising_pixels(), run_back(&rising_pixels()));
     [
         Worked::accepted("the pixels of 02", one_film, [2, 2, 10], &falling),
         Worked::accepted("in two films", two_films, [2, 2, 10], &falling),
         Worked::accepted("run back", one_back, [1, 3, 12], &falling_back),
-        Worked::accepted(
-            "run back in two films",
-            two_back,
-            [2, 2, 10],
-            &in_films_back,
-        ),
-        Worked::accepted("pixels that rise", rising_pixels(), [2, 1, 10], &rising),
-        Worked::accepted(
-            "pixels that rise, run back",
-            rising_run_back,
-            [1, 1, 9],
-            &rising_back,
-        ),
+        Worked::accepted("films run back", two_back, [2, 2, 10], &in_films_back),
+        Worked::accepted("pixels that rise", up, [2, 1, 10], &rising),
+        Worked::accepted("rising run back", up_back, [1, 1, 9], &rising_back),
     ]
 }
 
 /// Sheets with corners that are accepted; each is lent as many rows as its peak.
 pub fn accepted_at_corners() -> Vec<Worked> {
-    let straight: [Pair; 7] = [(1, 1), (2, 2), (2, 1), (2, 3), (2, 0), (1, 2), (1, 0)];
-    let joined: [Pair; 6] = [(2, 1), (2, 2), (2, 0), (1, 1), (1, 2), (1, 0)];
-    let apart = [2, 1, 3, 4, 0, 5].map(|sequence| (1, sequence));
+    let straight = pairs([1, 2, 2, 2, 2, 1, 1], [1, 2, 1, 3, 0, 2, 0]);
+    let joined = pairs([2, 2, 2, 1, 1, 1], [1, 2, 0, 1, 2, 0]);
+    let apart = pairs([1; 6], [2, 1, 3, 4, 0, 5]);
     let back = run_back(&slivers());
     let mut sheets = Vec::from(pairs_of_pixels());
     sheets.extend([
