@@ -33,6 +33,17 @@ fn falling_pixels(upper_left: i32) -> Sheet {
     sheet
 }
 
+/// The same two pixels as large as they can be: they touch at (0, 0), and the far
+/// ends of their edges lie at the ends of the range.
+fn largest_pixels() -> Sheet {
+    let mut sheet = falling_pixels(0);
+    for edge in sheet.chunks_exact_mut(NUMBERS_PER_EDGE) {
+        let coordinates = edge[..4].iter_mut();
+        coordinates.for_each(|number| *number = 1_000_000 * (*number - 1));
+    }
+    sheet
+}
+
 /// Two pixels of which the upper one is to the right.
 fn rising_pixels() -> Sheet {
     film_0(&[
@@ -84,7 +95,7 @@ fn pairs<const N: usize>(polygons: [u32; N], sequences: [u32; N]) -> [Pair; N] {
 
 /// Two outlines that stay so at a corner, and one that goes twice through it when
 /// all is run the other way.
-fn pairs_of_pixels() -> [Worked; 6] {
+fn pairs_of_pixels() -> [Worked; 8] {
     let falling = pairs([2, 1, 2, 2, 2, 1, 1, 1], [2, 2, 1, 3, 0, 1, 3, 0]);
     let rising = pairs([2, 2, 2, 2, 1, 1, 1, 1], [2, 1, 3, 0, 2, 1, 3, 0]);
     let falling_back = pairs([1; 8], [3, 5, 4, 2, 1, 6, 0, 7]);
@@ -93,6 +104,7 @@ fn pairs_of_pixels() -> [Worked; 6] {
     let (one_film, two_films) = (falling_pixels(0), falling_pixels(1));
     let (one_back, two_back) = (run_back(&one_film), run_back(&two_films));
     let (up, up_back) = (rising_pixels(), run_back(&rising_pixels()));
+    let (large, large_back) = (largest_pixels(), run_back(&largest_pixels()));
     [
         Worked::accepted("the pixels of 02", one_film, [2, 2, 10], &falling),
         Worked::accepted("in two films", two_films, [2, 2, 10], &falling),
@@ -100,6 +112,8 @@ fn pairs_of_pixels() -> [Worked; 6] {
         Worked::accepted("films run back", two_back, [2, 2, 10], &in_films_back),
         Worked::accepted("pixels that rise", up, [2, 1, 10], &rising),
         Worked::accepted("rising run back", up_back, [1, 1, 9], &rising_back),
+        Worked::accepted("largest pixels", large, [2, 2, 10], &falling),
+        Worked::accepted("largest run back", large_back, [1, 3, 12], &falling_back),
     ]
 }
 
