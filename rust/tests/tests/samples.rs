@@ -69,8 +69,15 @@ fn the_portrait() {
     let outlines = Outlines::of(&portrait).unwrap();
     assert_eq!(outlines.count(), 11);
     assert_eq!(touching_sites(&edges).len(), 6);
-    let lengths = (1..=outlines.count()).map(|number| outlines.places(number).len());
-    assert_eq!(lengths.filter(|length| *length == 4).count(), 4);
+    let area = |number: usize| {
+        let places = outlines.places(number).iter();
+        let round: Vec<Edge> = places.map(|place| edges[*place as usize]).collect();
+        twice_area(&round)
+    };
+    let areas: Vec<i64> = (1..=outlines.count()).map(area).collect();
+    let (pixel, mouth) = (2, -2 * 12);
+    let of_area = |wanted: i64| areas.iter().filter(|area| **area == wanted).count();
+    assert_eq!((of_area(pixel), of_area(mouth)), (2, 1), "{areas:?}");
     let bitmap = bytes("portrait.pixels");
     for (film, mark) in [(0, b'0'), (1, b'1')] {
         let pixels = bitmap.iter().filter(|byte| **byte == mark).count();
