@@ -34,9 +34,9 @@ impl Direction {
 
     /// The order going round clockwise: first what leads to higher points, the
     /// last of these straight to the right; then what leads to lower ones, the
-    /// last straight to the left. On either half the greater slant to the side
-    /// that is turned to comes later. Equal are ways of one direction, however
-    /// long.
+    /// last straight to the left. Of two on one half the second is reached by a
+    /// turn to the right, which the products across tell. Equal are ways of one
+    /// direction, however long.
     fn clockwise(self, other: Direction) -> Ordering {
         let halves = self.is_below().cmp(&other.is_below());
         halves.then_with(|| (self.right * other.up).cmp(&(other.right * self.up)))

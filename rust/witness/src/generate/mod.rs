@@ -1,8 +1,8 @@
 //! Sheets for tests: every maker here gives an edge list that is sound and in
-//! sweep order by document 01, four edges of a film alternating by M-104, with edges of equal tops in random order, in one
-//! film or several. All chance comes from a `Random`, whose seed is printed when
-//! a test fails. `damage` and `spoil_cutting` spoil a call so that a chosen refusal
-//! must come.
+//! sweep order by document 01 and alternates by M-104 wherever four edges of a
+//! film meet, with edges of equal tops in random order, in one film or several.
+//! All chance comes from a `Random`, whose seed is printed when a test fails.
+//! `damage` and `spoil_cutting` spoil a call so that a chosen refusal must come.
 
 mod cuts;
 mod damage;
