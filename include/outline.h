@@ -47,7 +47,7 @@ enum {
  *
  * 1 to 4 are tried first. Then the first edge with any of 5, 16, 6, 7 decides,
  * in that order within an edge. Then 8 is tried over the whole list, then 9,
- * then 10. Likewise 11, 12, 13 and 14 one after the other. For an instruction
+ * then 17, then 10. Likewise 11, 12, 13 and 14 one after the other. For an instruction
  * 1 and 2 are tried first, then the first edge with any of 5, 16, 6 decides,
  * then come 11 to 14, 24, 25 and 18.
  */
@@ -69,6 +69,10 @@ enum {
                                    edges of its film are not equally many */
     OUTLINE_NO_ROW = 10,        /* too few rows: when it was treated */
     OUTLINE_FILM_PAST_RANGE = 16, /* the edge has a film past 0 to 255 */
+    OUTLINE_NOT_ALTERNATING = 17, /* it has an end where four edges of its film
+                                     do not arrive and leave by turns going
+                                     round the point, or where two of them lie
+                                     in one direction */
     /* outline_turns */
     OUTLINE_TURN_LENGTHS = 11,  /* the lengths differ, or are above 4,096, or
                                    for an instruction not one an edge */
@@ -124,7 +128,11 @@ typedef struct {
  *   edges      five numbers an edge, in sweep order: no edge has its higher end
  *              below that of the edge before it, a point being higher by y and
  *              at equal y by x, whatever the films. Edges meet only within a
- *              film: neighbours of two films may share whole sides. Unchanged.
+ *              film: neighbours of two films may share whole sides. Film lies
+ *              to the left of each edge: where four edges of a film meet, an
+ *              arriving edge is followed by the leaving edge first met turning
+ *              clockwise from the way it came, so that two pixels which touch
+ *              corner to corner are two outlines. Unchanged.
  *   polygons   one number an edge: its outline, from 1. The outline with the
  *              highest top is number 1. Two films' outlines may have the same
  *              top: of the two edges that each has there, take the later one in

@@ -1,6 +1,6 @@
 //! Joining by a hash map, as one would write it without Hartley's method: the
-//! same checks in the same order, each edge's follower looked up by point, film
-//! and side, every round walked once, outlines sorted by their tops. It gives
+//! same checks in the same order, each edge's follower looked up by point and
+//! film, and where four edges meet by their directions, every round walked once, outlines sorted by their tops. It gives
 //! the same polygon and sequence numbers, the same turn list and the same
 //! refusals but for 10; it writes no journal and needs no rows.
 
@@ -39,7 +39,8 @@ pub fn assemble(numbers: &[i32], lent: &mut Lent) -> Result<u32, Refusal> {
     let edges = read_edges(numbers);
     check_edges(&edges)?;
     let ends = Ends::of(&edges)?;
-    ends.check_balance(&edges)?;
+    ends.check(9, &edges, Meeting::is_balanced)?;
+    ends.check(17, &edges, |meeting| meeting.alternates(&edges))?;
     let followers = ends.followers(&edges);
     Ok(walk(&edges, &followers, lent))
 }
@@ -102,6 +103,48 @@ impl Meeting {
         let count = |edges: [u32; 2]| edges.iter().filter(|edge| **edge != NONE).count();
         count(self.arriving) == count(self.leaving)
     }
+
+    /// Whether all four kinds are here, for a point that is balanced.
+    fn is_corner(&self) -> bool {
+        !self.leaving.contains(&NONE)
+    }
+
+    /// Whether four edges alternate, for a point that is balanced: going round
+    /// clockwise either the arriving edge comes first both above and below, or the
+    /// leaving one does.
+    fn alternates(&self, edges: &[Edge]) -> bool {
+        if !self.is_corner() {
+            return true;
+        }
+        let (lower, upper) = (self.turn(0, edges), self.turn(1, edges));
+        lower != 0 && lower == upper
+    }
+
+    /// The turn from the way back along the edge that arrives on a side, 0 below
+    /// and 1 above, to the way along the one that leaves on it: -1 where that is
+    /// met first clockwise, 0 where both are of one direction, 1 otherwise.
+    fn turn(&self, side: usize, edges: &[Edge]) -> i64 {
+        let (arriving, leaving) = (self.arriving[side], self.leaving[side]);
+        let along = |edge: &Edge| {
+            let far = |one: i32, other: i32| i64::from(other) - i64::from(one);
+            (far(edge.tail.x, edge.head.x), far(edge.tail.y, edge.head.y))
+        };
+        let (arriving, leaving) = (&edges[arriving as usize], &edges[leaving as usize]);
+        let (back, out) = (along(&arriving.reversed()), along(leaving));
+        (back.0 * out.1 - back.1 * out.0).signum()
+    }
+
+    /// The edge that follows the one that arrives on a side: where four meet, the
+    /// one on its own side if that is the first met clockwise.
+    fn follower(&self, side: usize, edges: &[Edge]) -> u32 {
+        let stays = !self.is_corner() || self.turn(side, edges) < 0;
+        let [own, other] = [self.leaving[side], self.leaving[1 - side]];
+        if stays && own != NONE {
+            own
+        } else {
+            other
+        }
+    }
 }
 
 /// All points of a list, film by film, with the edges there.
@@ -127,29 +170,29 @@ impl Ends {
         Ok(Ends { meetings })
     }
 
-    /// Refusal 9: the points are looked at first, and the edges again only
-    /// where one is open.
-    fn check_balance(&self, edges: &[Edge]) -> Result<(), Refusal> {
-        if self.meetings.values().all(Meeting::is_balanced) {
+    /// Refusals 9 and 17: the points are looked at first, and the edges again
+    /// only where one is wrong.
+    fn check(
+        &self,
+        number: u32,
+        edges: &[Edge],
+        is_right: impl Fn(&Meeting) -> bool,
+    ) -> Result<(), Refusal> {
+        if self.meetings.values().all(&is_right) {
             return Ok(());
         }
-        let open = |site: Site| !self.meetings[&site].is_balanced();
+        let wrong = |site: Site| !is_right(&self.meetings[&site]);
         let place = edges
             .iter()
-            .position(|edge| open(edge.site(edge.tail)) || open(edge.site(edge.head)));
-        Err(Refusal::at(9, place.unwrap_or(0)))
+            .position(|edge| wrong(edge.site(edge.tail)) || wrong(edge.site(edge.head)));
+        Err(Refusal::at(number, place.unwrap_or(0)))
     }
 
-    /// For each edge the one that follows it: the one that leaves on its own
-    /// side of the point, else the one on the other side.
+    /// For each edge the one that follows it.
     fn followers(&self, edges: &[Edge]) -> Vec<u32> {
         let follower = |edge: &Edge| {
             let side = usize::from(!edge.is_up());
-            let leaving = self.meetings[&edge.site(edge.head)].leaving;
-            match leaving[side] {
-                NONE => leaving[1 - side],
-                follower => follower,
-            }
+            self.meetings[&edge.site(edge.head)].follower(side, edges)
         };
         edges.iter().map(follower).collect()
     }

@@ -1,5 +1,5 @@
 //! How long the engine takes, beside the witness's steps and joining by a hash
-//! map with the same checks: six shapes in four sizes, printed as tables in
+//! map with the same checks: seven shapes in four sizes, printed as tables in
 //! Markdown. The best of many runs counts; clearing the lent slices is part of
 //! the engine's call. And all instructions of the largest sheets, beside plain
 //! Rust with the same checks.
@@ -26,8 +26,9 @@ of many runs over different sheets of a shape, in each size as many as have abou
 4,096 edges together; edges and peak are those of the first. Engine, witness and hash
 map check the same refusals and fill the same three lists; the engine and the witness
 clear and fill the rest of what is lent too, with as many rows as the sheet's peak.
-The witness's sweeps are timed once more without its checks and its turn list. Growth
-is the engine's time an edge beside that of the shape's first line.
+The witness's sweeps are timed once more without its checks and its turn list; they
+find the corners that are apart for themselves. Growth is the engine's time an edge
+beside that of the shape's first line.
 
 | sheet | edges | peak | engine | witness | its sweeps | hash map | engine / witness | engine / its sweeps | engine / hash map | growth |
 |---|--:|--:|--:|--:|--:|--:|--:|--:|--:|--:|";

@@ -1,6 +1,7 @@
-//! The sheets that are timed: six shapes in four sizes, always the same.
+//! The sheets that are timed: seven shapes in four sizes, always the same.
 
-use witness::generate::{comb, patchwork, pixels, saw, spiral, squares, Random, Sheet};
+use witness::generate::{chessboard, comb, patchwork, pixels, saw, spiral, squares};
+use witness::generate::{Random, Sheet};
 use witness::geometry::{MOST_EDGES, NUMBERS_PER_EDGE};
 
 /// The numbers of edges that are aimed at.
@@ -13,10 +14,11 @@ pub struct Shape {
     make: fn(&mut Random, usize) -> Sheet,
 }
 
-/// The six shapes. A grid of 4,096 edges has 1,024 squares, a comb 1,024 teeth,
-/// and many films 1,024 pixels side by side, each in another film than its
-/// neighbours. The others are of one film.
-pub const SHAPES: [Shape; 6] = [
+/// The seven shapes. A grid of 4,096 edges has 1,024 squares, a comb 1,024 teeth,
+/// a chessboard 1,024 fields, and many films 1,024 pixels side by side, each in
+/// another film than its neighbours. The others are of one film. On a chessboard
+/// four edges meet at every inner corner.
+pub const SHAPES: [Shape; 7] = [
     Shape {
         name: "pixel art",
         make: pixel_art,
@@ -24,6 +26,10 @@ pub const SHAPES: [Shape; 6] = [
     Shape {
         name: "squares",
         make: |random, edges| squares(random, edges / 4 / side(edges / 4), side(edges / 4)),
+    },
+    Shape {
+        name: "chessboard",
+        make: |random, edges| chessboard(random, edges / 2 / side(edges / 2), side(edges / 2)),
     },
     Shape {
         name: "comb",

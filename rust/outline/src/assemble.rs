@@ -24,7 +24,7 @@ pub enum Answer {
 /// lends. Nothing is allocated, and no length and no number makes the call
 /// panic: what does not fit is refused.
 ///
-/// - `edges`: five numbers an edge, in sweep order.
+/// - `edges`: five numbers an edge, in sweep order, with film to the left of each.
 /// - `polygons`, `sequences`: one number an edge. When accepted they hold each
 ///   edge's outline, from 1, and its place round it, from 0.
 /// - `turns`: one number an edge. When accepted it holds the edges' places in

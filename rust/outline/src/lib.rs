@@ -25,8 +25,13 @@
 //! allocated; [`rows_enough`] says how many rows to lend. [`turns()`] puts the
 //! edges of a numbering that was read from elsewhere in turn.
 //! [`Outlines::instructions`] says what a cutter is to do, and [`instruction()`]
-//! is the same on slices. [`text`] reads sheets as the program `outline` does, and
-//! [`picture`] draws them.
+//! is the same on slices. [`text`] reads sheets as the program `outline` does,
+//! [`pixels`] makes them of bitmaps, and [`picture`] draws them.
+//!
+//! Film lies to the left of every edge. Where four edges of a film meet at a
+//! point, an arriving edge is followed by the leaving edge first met turning
+//! clockwise from the way it came: so two pixels that touch corner to corner are
+//! two outlines.
 
 #![deny(unsafe_code, unsafe_op_in_unsafe_fn, missing_docs)]
 
@@ -35,6 +40,7 @@ mod engine;
 mod instructions;
 mod outlines;
 pub mod picture;
+pub mod pixels;
 mod refusal;
 mod rows;
 pub mod text;

@@ -95,6 +95,12 @@ pub enum Refusal {
         /// The first such edge.
         edge: u32,
     },
+    /// 17: four edges of a film at a point do not alternate arriving and leaving
+    /// going round it, or two of them lie in one direction.
+    NotAlternating {
+        /// The first edge of that film with an end at such a point.
+        edge: u32,
+    },
     /// 18: there are not so many instructions.
     PastLast,
     /// 24: the turn list is not the one that the numbers give.
@@ -139,6 +145,7 @@ impl Refusal {
             13 => Refusal::PairRepeated { edge },
             14 => Refusal::Gap { edge },
             16 => Refusal::FilmPastRange { edge },
+            17 => Refusal::NotAlternating { edge },
             18 => Refusal::PastLast,
             24 => Refusal::TurnsDiffer { position: place },
             25 => Refusal::HeadNotTail { edge },
@@ -166,6 +173,7 @@ impl Refusal {
             Refusal::Gap { .. } => 14,
             Refusal::Malformed { .. } => 15,
             Refusal::FilmPastRange { .. } => 16,
+            Refusal::NotAlternating { .. } => 17,
             Refusal::PastLast => 18,
             Refusal::TurnsDiffer { .. } => 24,
             Refusal::HeadNotTail { .. } => 25,
@@ -197,6 +205,7 @@ impl Refusal {
             | Refusal::PairRepeated { edge }
             | Refusal::Gap { edge }
             | Refusal::FilmPastRange { edge }
+            | Refusal::NotAlternating { edge }
             | Refusal::HeadNotTail { edge } => Some(edge),
             _ => None,
         }
@@ -238,6 +247,9 @@ impl Refusal {
             }
             Refusal::Malformed { .. } => "is malformed",
             Refusal::FilmPastRange { .. } => "has a film below 0 or above 255",
+            Refusal::NotAlternating { .. } => {
+                "has an end where four edges of its film do not arrive and leave by turns going round the point, or where two of them lie in one direction"
+            }
             Refusal::PastLast => "there are not so many instructions",
             Refusal::TurnsDiffer { .. } => "has another edge than the numbers put there",
             Refusal::HeadNotTail { .. } => {
@@ -278,6 +290,9 @@ impl Refusal {
                 "write five whole numbers of up to seven digits with one space between them, no needless zeros, and a newline after the last"
             }
             Refusal::FilmPastRange { .. } => "give it one of the 256 films",
+            Refusal::NotAlternating { .. } => {
+                "film lies to the left of every edge: turn round the outline that runs the wrong way, or move the point apart into two"
+            }
             Refusal::PastLast => "stop after the last; there are as many as edges, and two more for each outline",
             Refusal::TurnsDiffer { .. } => "take the turn list that comes with the numbers, or have it read from them",
             Refusal::HeadNotTail { .. } => "take the numbers and the turn list that belong to these edges",

@@ -108,6 +108,31 @@ fn the_touching_sheet() {
     assert!(svg.contains(&format!("<title>{}</title>", title)));
 }
 
+/// Where four edges of a film meet the corners are cut, so that two lines that
+/// touch do not cross; elsewhere a line goes through its corners.
+#[test]
+fn corners_are_cut_where_outlines_touch() {
+    let sheet = outline::pixels::sheet("#.\n.#\n").unwrap();
+    let svg = draw(&sheet).unwrap();
+    check_fits(&svg);
+    let lines = svg.lines().filter(|line| line.contains("\"outline\""));
+    let spots = |line: &str| -> Vec<String> {
+        let path = values(line, "d")[0].trim_matches(['M', 'Z'].as_slice());
+        path.split('L').map(str::to_string).collect()
+    };
+    let spots: Vec<Vec<String>> = lines.map(spots).collect();
+    assert_eq!([spots[0].len(), spots[1].len()], [5, 5]);
+    let ring = svg
+        .lines()
+        .find(|line| line.contains("\"touching\""))
+        .unwrap();
+    let middle = format!("{} {}", values(ring, "cx")[0], values(ring, "cy")[0]);
+    assert!(spots.iter().flatten().all(|spot| *spot != middle));
+    let in_two_films = draw(&outline::pixels::sheet("0.\n.1\n").unwrap()).unwrap();
+    let whole = |line: &&str| line.contains("\"outline\"") && line.contains(&middle);
+    assert_eq!(in_two_films.lines().filter(whole).count(), 2);
+}
+
 /// Outlines of two films have two colours, and where they have a point in
 /// common they do not touch.
 #[test]

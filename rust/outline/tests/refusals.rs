@@ -7,6 +7,12 @@ use outline::{assemble, instruction, turns, Answer, Machine, Outlines, Refusal, 
 
 const TRIANGLE: [i32; 15] = [0, 0, 4, 2, 7, 4, 2, 1, 5, 7, 1, 5, 0, 0, 7];
 
+/// Two lines of one film that cross at (0, 0).
+const CROSSING: [i32; 30] = [
+    1, -1, -1, -1, 7, -1, -1, 0, 0, 7, 0, 0, 1, -1, 7, -1, 1, 0, 0, 7, 0, 0, 1, 1, 7, 1, 1, -1, 1,
+    7,
+];
+
 /// The refusals that speak of no edge.
 const OF_NO_EDGE: [Refusal; 6] = [
     Refusal::NotWhole,
@@ -18,7 +24,7 @@ const OF_NO_EDGE: [Refusal; 6] = [
 ];
 
 /// The refusals that speak of an edge.
-fn of_an_edge(edge: u32) -> [Refusal; 11] {
+fn of_an_edge(edge: u32) -> [Refusal; 12] {
     [
         Refusal::PastRange { edge },
         Refusal::EqualEnds { edge },
@@ -30,6 +36,7 @@ fn of_an_edge(edge: u32) -> [Refusal; 11] {
         Refusal::PairRepeated { edge },
         Refusal::Gap { edge },
         Refusal::FilmPastRange { edge },
+        Refusal::NotAlternating { edge },
         Refusal::HeadNotTail { edge },
     ]
 }
@@ -40,7 +47,7 @@ fn numbers_and_places() {
     let expected = [1, 2, 3, 4, 11, 18];
     assert_eq!(numbers, expected.map(|number| (number, 0, None)));
     let numbers = of_an_edge(9).map(|refusal| (refusal.number(), refusal.place(), refusal.edge()));
-    let expected = [5, 6, 7, 8, 9, 10, 12, 13, 14, 16, 25];
+    let expected = [5, 6, 7, 8, 9, 10, 12, 13, 14, 16, 17, 25];
     assert_eq!(numbers, expected.map(|number| (number, 9, Some(9))));
     let malformed = Refusal::Malformed { line: 4 };
     assert_eq!((malformed.number(), malformed.place()), (15, 4));
@@ -78,7 +85,7 @@ fn every_refusal_has_a_sentence_of_its_own() {
         place: 5,
     };
     assert!(say(unknown).starts_with("refusal 77 5: "));
-    assert_eq!(sentences.len(), 20);
+    assert_eq!(sentences.len(), 21);
 }
 
 #[test]
@@ -127,6 +134,10 @@ fn each_refusal_of_the_engine_comes_as_its_case() {
         (
             one_edge(&[0, 0, 0, 0, 256]),
             Refusal::FilmPastRange { edge: 0 },
+        ),
+        (
+            answer(&CROSSING, [6; 3], 48, 0),
+            Refusal::NotAlternating { edge: 1 },
         ),
         (triangle([3; 3], 24, 7), Refusal::NoRow { edge: 0 }),
     ];

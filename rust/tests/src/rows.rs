@@ -40,8 +40,8 @@ pub struct Measured {
     pub bound: usize,
     /// What the sizing function says before L is known.
     pub lent: usize,
-    /// The peak of before M-103.
-    pub before: usize,
+    /// The peak of before M-103, where edges were joined then as now.
+    pub before: Option<usize>,
     /// The peak that the engine reports.
     pub peak: usize,
 }
@@ -126,11 +126,15 @@ pub fn table(all: &[Measured]) -> String {
     );
     for m in all {
         let (title, share) = (&m.title, 100 * m.peak / m.bound);
-        let numbers = [
-            m.edges, m.longest, m.passing, m.demanded, m.bound, m.lent, m.before, m.peak,
-        ];
+        let numbers = [m.edges, m.longest, m.passing, m.demanded, m.bound, m.lent];
         let numbers = numbers.map(|number| number.to_string()).join(" | ");
-        writeln!(text, "| {title} | {numbers} | {share} % |").unwrap();
+        let before = m.before.map_or("-".to_string(), |peak| peak.to_string());
+        let peak = m.peak;
+        writeln!(
+            text,
+            "| {title} | {numbers} | {before} | {peak} | {share} % |"
+        )
+        .unwrap();
     }
     text
 }
@@ -205,8 +209,8 @@ fn draw_family(text: &mut String, colour: &str, of_family: &[&Measured]) {
     let ring = format!("r=\"3.5\" fill=\"none\" stroke=\"{colour}\"");
     let dot = format!("r=\"4\" fill=\"{colour}\"");
     for m in of_family {
-        if m.before != m.peak {
-            circle(m.bound, m.before, &ring);
+        if let Some(before) = m.before.filter(|before| *before != m.peak) {
+            circle(m.bound, before, &ring);
         }
         circle(m.bound, m.peak, &dot);
     }

@@ -4,7 +4,9 @@
 
 use tests::held::{assemble, refusal};
 use witness::call::Call;
-use witness::generate::{comb, in_sweep_order, layered, mosaic, patchwork, pixels, saw, soup};
+use witness::generate::{
+    chessboard, comb, in_sweep_order, layered, mosaic, patchwork, pixels, saw, soup,
+};
 use witness::generate::{spiral, squares, walks, Random, Sheet};
 use witness::geometry::{read_edges, Edge, Point, NUMBERS_PER_EDGE};
 use witness::steps::sweep_up;
@@ -227,9 +229,11 @@ fn the_largest_sheets_of_every_shape() {
         comb(random, 1_024),
         spiral(random, 2_048),
         squares(random, 32, 32),
+        chessboard(random, 45, 45),
+        chessboard(random, 2, 1_023),
         pixels(random, 52, 52, 50, false),
         soup(random, 1, 4_096, 1_000_000, &[0]),
-        walks(random, 26, 2_000, &[0]),
+        walks(random, 32, 2_000, &[0]),
         walks(random, 8, 2_000, &all_films),
         mosaic(random, 31, 31, &all_films, false),
         patchwork(random, 32, 32),

@@ -28,7 +28,7 @@ fn two_faults_in_every_pair() {
             }
         }
     }
-    assert_eq!(pairs.len(), 55);
+    assert_eq!(pairs.len(), 66);
 }
 
 /// The engine's numbering of some sheet, with its lists long enough to be

@@ -67,7 +67,7 @@ fn every_instruction_of_the_vectors_sheets() {
         instructions += hold_every_k(call);
         sheets += 1;
     }
-    assert_eq!((sheets, instructions), (177, 1_936));
+    assert_eq!((sheets, instructions), (201, 1_582));
 }
 
 /// How many edges the outlines have that every coordinate is tried with.

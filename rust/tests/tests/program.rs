@@ -69,13 +69,24 @@ fn the_cases_of_the_vectors() {
             cases += 1;
         }
     }
-    assert_eq!(cases, 209);
+    assert_eq!(cases, 241);
 }
 
 #[test]
 fn the_triangle() {
     let printed = check(b"0 0 4 2 0\n4 2 1 5 0\n1 5 0 0 0\n");
     assert_eq!(printed, "accepted 1 1 4\n2 1 0\n1 1 2\n0 1 1\n");
+}
+
+/// The pixels of 02's example, and two lines that cross.
+#[test]
+fn corners() {
+    let pixels =
+        b"1 0 2 0 0\n0 1 1 1 0\n1 1 1 0 0\n2 0 2 1 0\n2 1 1 1 0\n0 2 0 1 0\n1 1 1 2 0\n1 2 0 2 0\n";
+    let numbers = "7 1 0\n6 1 3\n5 1 1\n4 2 0\n3 2 3\n2 2 1\n1 1 2\n0 2 2\n";
+    assert_eq!(check(pixels), format!("accepted 2 2 10\n{numbers}"));
+    let lines = b"1 -1 -1 -1 0\n-1 -1 0 0 0\n0 0 1 -1 0\n-1 1 0 0 0\n0 0 1 1 0\n1 1 -1 1 0\n";
+    assert_eq!(check(lines), "refused 17 1\n");
 }
 
 #[test]

@@ -4,27 +4,48 @@
 //! A failure names its seed.
 
 use std::collections::BTreeMap;
+use std::ops::Range;
 
 use tests::held::{assemble, refusal};
 use witness::call::Call;
 use witness::checks::IN_ORDER;
+use witness::corners::Meetings;
 use witness::generate::{any, damaged, Random, Seed};
 use witness::geometry::read_edges;
 use witness::steps::{sweep_up, NUMBERS_PER_ROW};
 
-/// How often each refusal has been met with, 0 standing for acceptance.
-type Met = BTreeMap<u32, usize>;
+/// What has been met with.
+#[derive(Default)]
+struct Met {
+    /// How often each refusal, 0 standing for acceptance.
+    answers: BTreeMap<u32, usize>,
+    /// How many sound sheets with a corner whose lower edges are apart.
+    apart: usize,
+    /// How many with a corner whose lower edges join.
+    joined: usize,
+}
+
+impl Met {
+    /// Counts a sound sheet by its corners.
+    fn count_corners(&mut self, sheet: &[i32]) {
+        let meetings = Meetings::of(&read_edges(sheet));
+        let (corners, apart) = (meetings.corners().count(), meetings.apart().len());
+        self.apart += (apart > 0) as usize;
+        self.joined += (corners > apart) as usize;
+    }
+}
 
 /// Makes a call of both engines and counts its answer.
 fn hold(random: &mut Random, call: &Call, met: &mut Met) -> u32 {
     let refusal = refusal(assemble(random, call));
-    *met.entry(refusal).or_insert(0) += 1;
+    *met.answers.entry(refusal).or_insert(0) += 1;
     refusal
 }
 
 /// The calls that a sound sheet is good for.
 fn hold_sheet(random: &mut Random, met: &mut Met) {
     let sheet = any(random);
+    met.count_corners(&sheet);
     let peak = sweep_up(&read_edges(&sheet), usize::MAX).unwrap().peak;
     let enough = outline::rows_enough(&sheet);
     assert!(peak <= enough, "{} rows do not suffice", enough);
@@ -121,8 +142,8 @@ fn hold_numbers(random: &mut Random, met: &mut Met) {
 }
 
 /// All the calls of these seeds.
-fn hold_seeds(seeds: std::ops::Range<u64>) -> Met {
-    let mut met = Met::new();
+fn hold_seeds(seeds: Range<u64>) -> Met {
+    let mut met = Met::default();
     for seed in seeds {
         let seed = Seed(seed);
         let random = &mut seed.random();
@@ -137,14 +158,16 @@ fn hold_seeds(seeds: std::ops::Range<u64>) -> Met {
 
 /// Enough calls in all, and enough of each answer.
 fn check_met(met: &Met) {
-    let calls: usize = met.values().sum();
-    println!("{} calls: {:?}", calls, met);
+    let calls: usize = met.answers.values().sum();
+    println!("{} calls: {:?}", calls, met.answers);
     assert!(calls >= 50_000, "{} calls", calls);
     for refusal in [0].into_iter().chain(IN_ORDER) {
         let least = if refusal == 2 { 20 } else { 500 };
-        let times = met.get(&refusal).copied().unwrap_or(0);
+        let times = met.answers.get(&refusal).copied().unwrap_or(0);
         assert!(times >= least, "{} times {}", times, refusal);
     }
+    assert!(met.apart >= 400, "{} sheets", met.apart);
+    assert!(met.joined >= 400, "{} sheets", met.joined);
 }
 
 #[test]

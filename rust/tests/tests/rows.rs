@@ -1,6 +1,7 @@
 //! The sizing function against the bounds that are proved: C is what the witness
 //! counts, the list's length stands for the longest outline, and so many rows
-//! always suffice; the peak is exact, and no larger than before M-103.
+//! always suffice; the peak is exact, and no larger than before M-103 where edges
+//! were joined then as now.
 
 use std::collections::BTreeMap;
 use std::path::Path;
@@ -50,7 +51,8 @@ fn rows_enough_for_every_shape() {
 }
 
 /// The sheets are those whose peaks of before are kept, none more and none
-/// fewer. With as many rows as before each is accepted, and many with one fewer.
+/// fewer; none has four edges of one film at a point. With as many rows as before
+/// each is accepted, and many with one fewer.
 #[test]
 fn no_peak_is_larger_than_before() {
     let random = &mut Random::new(12);
@@ -67,7 +69,7 @@ fn no_peak_is_larger_than_before() {
         }
     }
     assert!(kept.is_empty(), "no sheets: {:?}", kept.keys());
-    assert_eq!(fallen, BTreeMap::from([(0, 181), (1, 126)]));
+    assert_eq!(fallen, BTreeMap::from([(0, 187), (1, 128)]));
 }
 
 /// Hartley's saws and the drawn shapes up to the most edges: the peak is exact,
@@ -78,7 +80,7 @@ fn peaks_and_the_bound() {
     let (random, kept) = (&mut Random::new(13), kept());
     let mut all = Vec::new();
     for shape in shapes() {
-        let before = kept[&shape.title()].peak;
+        let before = kept.get(&shape.title()).map(|kept| kept.peak);
         all.push(measured(random, shape, before));
     }
     let documents = Path::new(env!("CARGO_MANIFEST_DIR")).join("../../docs");
@@ -97,7 +99,7 @@ fn peaks_and_the_bound() {
 }
 
 /// The figures of a sheet. Its peak suffices, one row fewer is refused.
-fn measured(random: &mut Random, shape: Shape, before: usize) -> Measured {
+fn measured(random: &mut Random, shape: Shape, before: Option<usize>) -> Measured {
     let (title, sheet) = (shape.title(), shape.sheet);
     let peak = check(random, &sheet);
     let exactly = Call::fitting(sheet.clone(), peak);

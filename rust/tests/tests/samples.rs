@@ -59,14 +59,25 @@ fn the_pictures() {
 }
 
 /// A face in film 0 and a scarf in film 1, which share the three sides of the
-/// neck.
+/// neck. The two pixels of the earring hang on the face and on one another corner
+/// to corner, and are outlines of their own; pixels of the face touch so at the
+/// corners of the mouth, which is one hole.
 #[test]
 fn the_portrait() {
     let portrait = sheet("portrait.txt");
     let edges = read_edges(&portrait);
     let outlines = Outlines::of(&portrait).unwrap();
     assert_eq!(outlines.count(), 11);
-    assert_eq!(touching_sites(&edges).len(), 4);
+    assert_eq!(touching_sites(&edges).len(), 6);
+    let area = |number: usize| {
+        let places = outlines.places(number).iter();
+        let round: Vec<Edge> = places.map(|place| edges[*place as usize]).collect();
+        twice_area(&round)
+    };
+    let areas: Vec<i64> = (1..=outlines.count()).map(area).collect();
+    let (pixel, mouth) = (2, -2 * 12);
+    let of_area = |wanted: i64| areas.iter().filter(|area| **area == wanted).count();
+    assert_eq!((of_area(pixel), of_area(mouth)), (2, 1), "{areas:?}");
     let bitmap = bytes("portrait.pixels");
     for (film, mark) in [(0, b'0'), (1, b'1')] {
         let pixels = bitmap.iter().filter(|byte| **byte == mark).count();

@@ -291,6 +291,27 @@ fn refusals_with_films() {
 }
 
 #[test]
+fn refusals_at_corners() {
+    let house = House::built("corners", "");
+    let to_do = "film lies to the left of every edge, so that going round such a point one edge arrives and the next leaves: turn round the outline that runs the wrong way, or move the point apart into two";
+    let crossing = "1 -1 -1 -1 3\n-1 -1 0 0 3\n0 0 1 -1 3\n-1 1 0 0 3\n0 0 1 1 3\n1 1 -1 1 3\n";
+    explained(
+        &house,
+        crossing,
+        "17 (NotAlternating), line 2 (edge 1, counted from 0): -1 -1 0 0 3",
+        "at (0, 0) four edges of film 3 meet, and arriving and leaving do not alternate: going round it clockwise line 4 arrives, line 5 leaves, line 3 leaves and line 2 arrives",
+        to_do,
+    );
+    explained(
+        &house,
+        "-999999 -999999 -1000000 -1000000 0\n-1000000 -1000000 0 0 0\n0 0 -999999 -999999 0\n-1 1 0 0 0\n0 0 1 1 0\n1 1 -1 1 0\n",
+        "17 (NotAlternating), line 2 (edge 1, counted from 0): -1000000 -1000000 0 0 0",
+        "at (0, 0) four edges of film 0 meet, and line 2 and line 3 lie there in one direction",
+        to_do,
+    );
+}
+
+#[test]
 fn a_sheet_that_is_too_large() {
     let house = House::built("too-large", "");
     let say = |lines: &str, bytes: &str| {
@@ -379,7 +400,7 @@ fn random_sheets() {
         for sheet in [any(random), side_by_side] {
             house.check(outline::text::write_sheet(&sheet));
         }
-        for refusal in [5, 16, 6, 7, 8, 9] {
+        for refusal in [5, 16, 6, 7, 8, 9, 17] {
             let mut call = damaged(random, refusal);
             call.edges.truncate(outline::NUMBERS_PER_EDGE * MOST_LINES);
             let said = house.check(outline::text::write_sheet(&call.edges));
@@ -407,7 +428,7 @@ fn refusals_that_the_program_does_not_give() {
             own,
         ),
         (
-            17,
+            77,
             "no word for it here",
             "the program is newer than this script",
             "look it up in docs/REFUSALS.md",

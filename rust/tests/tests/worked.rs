@@ -5,14 +5,16 @@
 use outline::turns;
 use tests::held::{asked, outcome, turned};
 use witness::vectors::{all_cases, Work};
-use witness::worked::{accepted_by_document_01, accepted_in_films};
-use witness::worked::{refused_by_document_01, refused_for_films};
+use witness::worked::{accepted_at_corners, accepted_by_document_01, accepted_in_films};
+use witness::worked::{refused_at_corners, refused_by_document_01, refused_for_films};
 
 #[test]
 fn by_hand() {
     let of_document_01 = [accepted_by_document_01(), refused_by_document_01()];
     let of_films = [accepted_in_films(), refused_for_films()];
-    for worked in of_document_01.into_iter().chain(of_films).flatten() {
+    let at_corners = [accepted_at_corners(), refused_at_corners()];
+    let all = of_document_01.into_iter().chain(of_films).chain(at_corners);
+    for worked in all.flatten() {
         worked.check(&outcome(&worked.call));
     }
 }
@@ -40,5 +42,5 @@ fn every_case_of_the_vectors() {
             Work::Program(..) => {}
         }
     }
-    assert_eq!((assemble_cases, turn_cases, cut_cases), (450, 176, 193));
+    assert_eq!((assemble_cases, turn_cases, cut_cases), (534, 216, 273));
 }

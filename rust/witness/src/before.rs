@@ -1,12 +1,44 @@
-//! What the cases worked before M-103 still say. A row was then freed when all
-//! that it set going above was over, so that more rows were in use and rows had
-//! other names. The numbers, the refusals, and of the records the levels and
-//! offsets are the same, and no peak is larger now; only where a row was lacking
-//! there may be enough.
+//! What the cases worked before M-103, and before M-104, still say. Before M-103
+//! a row was freed when all that it set going above was over, so that more rows
+//! were in use and rows had other names. The numbers, the refusals, and of the
+//! records the levels and offsets are the same, and no peak is larger now; only
+//! where a row was lacking there may be enough. Before M-104 four edges of one
+//! film at a point were joined lower to lower and upper to upper, in whatever
+//! directions they lay: of sheets with such a point nothing is said any more,
+//! unless they were refused before any edge was joined.
 
 use crate::assemble::Answer;
 use crate::call::Outcome;
+use crate::declared::touching_sites;
+use crate::geometry::read_edges;
 use crate::steps::{NO_ROW, NUMBERS_PER_RECORD, NUMBERS_PER_ROW};
+use crate::text::read_list;
+use crate::vectors::Work;
+
+/// Whether a case from before M-104 says nothing any more.
+pub fn is_overtaken(work: &Work) -> bool {
+    match work {
+        Work::Assemble(call, before) => passed_checks(before.answer) && has_corner(&call.edges),
+        Work::Program(input, before) => {
+            let passed = before.starts_with(b"accepted ") || before.starts_with(b"refused 10 ");
+            passed && read_list(input).map_or(false, |list| has_corner(&list))
+        }
+        Work::Turns(..) | Work::Instruction(..) => false,
+    }
+}
+
+/// Whether an answer is none of the refusals that come before all steps.
+fn passed_checks(answer: Answer) -> bool {
+    match answer {
+        Answer::Accepted { .. } => true,
+        Answer::Refused(refusal) => refusal.number == 10,
+    }
+}
+
+/// Whether four edges of one film meet at a point.
+fn has_corner(list: &[i32]) -> bool {
+    !touching_sites(&read_edges(list)).is_empty()
+}
 
 /// Holds an outcome to one of before.
 ///

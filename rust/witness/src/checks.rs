@@ -1,11 +1,12 @@
 //! Refusals 1 to 9 of document 01's answer sheet, 3 as request M-101 reads it,
-//! and 16 of request M-100, each with its place, in the order in which the
-//! papers try them: the lengths; then edge by edge the range, the film, equal
-//! ends and the sweep order; then soundness over the whole list. Any list of any
-//! length is taken.
+//! 16 of request M-100 and 17 of M-104, each with its place, in the order in
+//! which the papers try them: the lengths; then edge by edge the range, the film,
+//! equal ends and the sweep order; then soundness over the whole list. Any list
+//! of any length is taken.
 
 use std::collections::{BTreeMap, BTreeSet};
 
+use crate::corners::Meetings;
 use crate::geometry::{read_edges, Edge, Point, Site, MOST_EDGES, NUMBERS_PER_EDGE};
 
 /// How many journal numbers must be lent for each edge.
@@ -13,7 +14,7 @@ pub const JOURNAL_NUMBERS_PER_EDGE: usize = 8;
 
 /// The refusals of an assembling call, in the order in which they are tried; 5 to
 /// 7 with 16 edge by edge, in that order within an edge.
-pub const IN_ORDER: [u32; 11] = [1, 2, 3, 4, 5, 16, 6, 7, 8, 9, 10];
+pub const IN_ORDER: [u32; 12] = [1, 2, 3, 4, 5, 16, 6, 7, 8, 9, 17, 10];
 
 /// Those of them that are tried edge by edge.
 pub const BY_EDGE: [u32; 4] = [5, 16, 6, 7];
@@ -57,6 +58,7 @@ pub fn checked(numbers: &[i32], lengths: Lengths) -> Result<Vec<Edge>, Refusal> 
     check_edges(&edges)?;
     check_kinds(&edges)?;
     check_balance(&edges)?;
+    check_corners(&edges)?;
     Ok(edges)
 }
 
@@ -131,9 +133,28 @@ fn check_balance(edges: &[Edge]) -> Result<(), Refusal> {
         *balance.entry(edge.site(edge.head)).or_insert(0) += 1;
         *balance.entry(edge.site(edge.tail)).or_insert(0) -= 1;
     }
-    let differs = |edge: &Edge| edge.ends().iter().any(|(site, _)| balance[site] != 0);
-    match edges.iter().position(differs) {
-        Some(place) => Err(Refusal::at(9, place)),
+    check_sites(9, edges, |site| balance[&site] == 0)
+}
+
+/// Refusal 17: a point where four edges of a film meet that do not alternate
+/// arriving and leaving going round, or of which two have one direction.
+fn check_corners(edges: &[Edge]) -> Result<(), Refusal> {
+    let meetings = Meetings::of(edges);
+    let corners = meetings.corners();
+    let wrong = corners.filter(|(_, corner)| !corner.alternates());
+    let wrong: BTreeSet<Site> = wrong.map(|(site, _)| site).collect();
+    check_sites(17, edges, |site| !wrong.contains(&site))
+}
+
+/// The refusal of the first edge with an end at a site that is not right.
+fn check_sites(
+    number: u32,
+    edges: &[Edge],
+    is_right: impl Fn(Site) -> bool,
+) -> Result<(), Refusal> {
+    let is_wrong = |edge: &Edge| edge.ends().into_iter().any(|(site, _)| !is_right(site));
+    match edges.iter().position(is_wrong) {
+        Some(place) => Err(Refusal::at(number, place)),
         None => Ok(()),
     }
 }

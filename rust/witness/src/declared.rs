@@ -1,5 +1,5 @@
-//! What the numbers are, with no sweep: the joining rule of document 01, within
-//! a film, leads from edge to edge; a closed round is an outline; outlines are
+//! What the numbers are, with no sweep: the joining rule of M-104, within a film,
+//! leads from edge to edge; a closed round is an outline; outlines are
 //! numbered by where their top edges stand in the list, the last first, and
 //! edges from the one that leaves the top. Beside it the two measures C and L
 //! of a list, from which the rows that always suffice follow. Only for sound
@@ -7,7 +7,8 @@
 
 use std::collections::BTreeMap;
 
-use crate::geometry::{Edge, Kind, Point, Site};
+use crate::corners::Meetings;
+use crate::geometry::{Edge, Point, Site};
 use crate::numbering::Numbering;
 
 /// For each edge the place of the edge that follows it.
@@ -15,17 +16,12 @@ use crate::numbering::Numbering;
 /// # Panics
 /// When the list is not sound.
 pub fn followers(edges: &[Edge]) -> Vec<usize> {
-    let mut leaving = BTreeMap::new();
-    for (place, edge) in edges.iter().enumerate() {
-        leaving.insert((edge.site(edge.tail), edge.tail_side()), place);
-    }
-    let follower = |edge: &Edge| {
-        let (site, side) = (edge.site(edge.head), edge.head_side());
-        let own_side = leaving.get(&(site, side));
-        let other_side = leaving.get(&(site, side.other()));
-        *own_side.or(other_side).expect("a sound list")
+    let meetings = Meetings::of(edges);
+    let follower = |(place, edge): (usize, &Edge)| {
+        let meeting = meetings.at(edge.site(edge.head));
+        meeting.expect("the edge's own head").follower(place)
     };
-    edges.iter().map(follower).collect()
+    edges.iter().enumerate().map(follower).collect()
 }
 
 /// The outlines as lists of places, in the order of their numbers, each from
@@ -49,6 +45,33 @@ pub fn outlines(edges: &[Edge]) -> Vec<Vec<usize>> {
     outlines.sort_by_key(|outline| later_top_edge(outline));
     outlines.reverse();
     outlines
+}
+
+/// The parts of a list as lists of places: all edges of one film that are linked
+/// through shared points.
+pub fn parts(edges: &[Edge]) -> Vec<Vec<usize>> {
+    let mut at_site: BTreeMap<Site, Vec<usize>> = BTreeMap::new();
+    for (place, edge) in edges.iter().enumerate() {
+        for (site, _) in edge.ends() {
+            at_site.entry(site).or_default().push(place);
+        }
+    }
+    let mut visited = vec![false; edges.len()];
+    let mut parts = Vec::new();
+    for start in 0..edges.len() {
+        let (mut part, mut linked) = (Vec::new(), vec![start]);
+        while let Some(place) = linked.pop() {
+            if !visited[place] {
+                visited[place] = true;
+                part.push(place);
+                let sites = edges[place].ends().map(|(site, _)| site);
+                linked.extend(sites.iter().flat_map(|site| &at_site[site]));
+            }
+        }
+        parts.push(part);
+    }
+    parts.retain(|part| !part.is_empty());
+    parts
 }
 
 /// Of the two edges of an outline at its top, where the later one stands in the
@@ -119,10 +142,12 @@ fn floor_log2(number: usize) -> usize {
 
 /// The sites at which edges of all four kinds meet, lowest first.
 pub fn touching_sites(edges: &[Edge]) -> Vec<Site> {
-    let mut kinds: BTreeMap<Site, Vec<Kind>> = BTreeMap::new();
-    for (site, kind) in edges.iter().flat_map(|edge| edge.ends()) {
-        kinds.entry(site).or_default().push(kind);
-    }
-    let all_four = kinds.into_iter().filter(|(_, kinds)| kinds.len() == 4);
-    all_four.map(|(site, _)| site).collect()
+    let meetings = Meetings::of(edges);
+    let sites = meetings.corners().map(|(site, _)| site);
+    sites.collect()
+}
+
+/// Those of them whose two lower edges do not join each other, lowest first.
+pub fn apart_sites(edges: &[Edge]) -> Vec<Site> {
+    Meetings::of(edges).apart().into_iter().collect()
 }

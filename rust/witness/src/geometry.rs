@@ -155,16 +155,6 @@ pub enum Side {
     Above,
 }
 
-impl Side {
-    /// The other side of the point.
-    pub fn other(self) -> Side {
-        match self {
-            Side::Below => Side::Above,
-            Side::Above => Side::Below,
-        }
-    }
-}
-
 /// What an edge does at one of its ends: four kinds in all.
 #[derive(Clone, Copy, PartialEq, Eq, PartialOrd, Ord, Hash, Debug)]
 pub enum Kind {

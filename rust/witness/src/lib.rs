@@ -1,8 +1,9 @@
 //! A witness for the outline engine: the rules of document 01, and of requests
 //! M-100 for films, M-101 for numbers and turns in one call, M-102 for
-//! instructions and M-103 for rows given back first, written a second time, for
-//! clearness only, so that the engine can be held against it. `checks`, `steps`,
-//! `assemble`, `turns`, `instructions` and `text` answer as the engine must;
+//! instructions, M-103 for rows given back first and M-104 for corners that stay
+//! apart, written a second time, for clearness only, so that the engine can be
+//! held against it. `checks`, `corners`, `steps`, `assemble`, `turns`,
+//! `instructions` and `text` answer as the engine must;
 //! `declared` says what the numbers are without any sweep; `call`, `vectors`,
 //! `worked` and `generate` are what tests of either engine need.
 //!
@@ -32,6 +33,7 @@ pub mod assemble;
 mod before;
 pub mod call;
 pub mod checks;
+pub mod corners;
 pub mod declared;
 pub mod generate;
 pub mod geometry;

@@ -31,6 +31,9 @@ const INSTRUCTIONS: &str = include_str!("../../vectors/M-102.txt");
 /// The cases of request M-103, with rows given back first.
 const ROWS_FIRST: &str = include_str!("../../vectors/M-103.txt");
 
+/// The cases of request M-104, with corners that stay apart.
+const CORNERS: &str = include_str!("../../vectors/M-104.txt");
+
 /// One case of a vector file.
 #[derive(Clone, PartialEq, Eq, Debug)]
 pub struct Case {
@@ -106,10 +109,28 @@ pub fn read_cases(text: &str) -> Result<Vec<Case>, String> {
     Ok(cases)
 }
 
-/// All cases of the repository's vector files: those of document 01, read in
-/// film 0, and those of requests M-100 to M-103. The files before M-103 are
-/// complete for their own time, with the rows of that time.
+/// All cases of the repository's vector files that hold: those of document 01,
+/// read in film 0, and those of requests M-100 to M-104, each file complete for
+/// its own time. Of the files before M-104 those are left out that
+/// [`overtaken_cases`] gives.
 pub fn all_cases() -> Result<Vec<Case>, String> {
+    let mut cases = before_corners()?;
+    cases.retain(|case| !before::is_overtaken(&case.work));
+    cases.extend(read_cases(CORNERS)?);
+    Ok(cases)
+}
+
+/// The cases that M-104 overtakes: their sheets passed the checks of their time
+/// and have four edges of one film at a point, which were joined otherwise.
+pub fn overtaken_cases() -> Result<Vec<Case>, String> {
+    let mut cases = before_corners()?;
+    cases.retain(|case| before::is_overtaken(&case.work));
+    Ok(cases)
+}
+
+/// The cases from before M-104; those from before M-103 have the rows of their
+/// time.
+fn before_corners() -> Result<Vec<Case>, String> {
     let base = read_cases(BASE)?.into_iter().map(in_film_0);
     let requests = [
         read_cases(FILMS)?,

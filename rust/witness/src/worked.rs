@@ -1,6 +1,11 @@
 //! Sheets worked by hand, those of document 01 in film 0 and those that show
-//! what request M-100 says of films, with the answers and numbers that the
-//! rules give them and the peaks of M-103. Any engine can be held against them.
+//! what request M-100 says of films and M-104 of corners, with the answers and
+//! numbers that the rules give them and the peaks of M-103. Any engine can be held
+//! against them.
+
+mod corners;
+
+pub use corners::{accepted_at_corners, refused_at_corners};
 
 use crate::assemble::Answer;
 use crate::call::{Call, Outcome};
@@ -49,11 +54,16 @@ impl Worked {
         }
     }
 
-    /// Refused for want of a row, when it is lent so many.
-    fn lacking_a_row(name: &'static str, edges: Sheet, rows: usize, place: u32) -> Worked {
-        let mut worked = Worked::refused(name, edges, 10, place);
+    /// Refused when it is lent so many rows.
+    fn lent(name: &'static str, edges: Sheet, rows: usize, number: u32, place: u32) -> Worked {
+        let mut worked = Worked::refused(name, edges, number, place);
         worked.call.rows = NUMBERS_PER_ROW * rows;
         worked
+    }
+
+    /// Refused for want of a row, when it is lent so many.
+    fn lacking_a_row(name: &'static str, edges: Sheet, rows: usize, place: u32) -> Worked {
+        Worked::lent(name, edges, rows, 10, place)
     }
 
     /// An outcome of the call: its answer must be this one, and every slice must

@@ -1,13 +1,15 @@
 //! The makers of sheets make what they claim: sound lists in sweep order, the
-//! saws of the vector files, film on the left, outlines run both ways, films
-//! side by side and on one another. Without this the other tests might pass on
+//! saws of the vector files, film on the left, parts run both ways, films side by
+//! side and on one another, corners that are apart and corners that are joined. Without this the other tests might pass on
 //! sheets that could not fail them.
 
 use std::collections::BTreeSet;
 
 use witness::checks::{checked, Lengths};
 use witness::declared;
-use witness::generate::{any, comb, in_films, in_sweep_order, layered, mosaic, moved, patchwork};
+use witness::generate::{
+    any, chessboard, comb, in_films, in_sweep_order, layered, mosaic, moved, patchwork,
+};
 use witness::generate::{pixels, saw, saws, some_films, spiral, squares, turned_round, walks};
 use witness::generate::{Random, Sheet};
 use witness::geometry::{read_edges, twice_area, Edge, Point, NUMBERS_PER_EDGE};
@@ -78,6 +80,7 @@ fn shapes_have_the_edges_they_claim() {
     assert_eq!(edges(comb(random, 7)), 28);
     assert_eq!(edges(spiral(random, 9)), 18);
     assert_eq!(edges(squares(random, 3, 5)), 60);
+    assert_eq!(edges(chessboard(random, 3, 5)), 32);
     assert_eq!(edges(saw(random, 11)), 4094);
     assert_eq!(edges(patchwork(random, 32, 32)), 4096);
     for sheet in [comb(random, 7), spiral(random, 9), saw(random, 4)] {
@@ -85,6 +88,10 @@ fn shapes_have_the_edges_they_claim() {
     }
     let grid = read_edges(&squares(random, 3, 5));
     assert_eq!(declared::outlines(&grid).len(), 15);
+    let board = read_edges(&chessboard(random, 3, 5));
+    assert_eq!(declared::outlines(&board).len(), 8);
+    assert_eq!(declared::touching_sites(&board).len(), 2 * 4);
+    assert_eq!(declared::apart_sites(&board).len(), 4);
 }
 
 #[test]
@@ -175,6 +182,26 @@ fn films_of_any_sheet() {
     assert!(met.contains(&0) && met.contains(&Edge::MOST_FILM) && met.len() > 50);
 }
 
+/// A sheet with parts run the other way has as many outlines as before where no
+/// four edges meet; corners that were apart are joined where their part is
+/// turned, and the other way round.
+fn check_turned(sheet: &[Edge], round: &[Edge]) {
+    let count = |edges: &[Edge]| declared::outlines(edges).len();
+    let corners = declared::touching_sites(sheet);
+    assert_eq!(declared::touching_sites(round), corners);
+    if corners.is_empty() {
+        assert_eq!(count(round), count(sheet));
+    }
+    let (before, after) = (declared::apart_sites(sheet), declared::apart_sites(round));
+    for site in corners {
+        let ends_here = |edge: &&Edge| edge.ends().iter().any(|(end, _)| *end == site);
+        let here = sheet.iter().find(ends_here).unwrap();
+        let is_turned = !round.contains(here);
+        let changed = before.contains(&site) != after.contains(&site);
+        assert_eq!(changed, is_turned, "{:?}", site);
+    }
+}
+
 #[test]
 fn changes_that_keep_a_sheet_sound() {
     let (mut turned, mut reordered, mut corners) = (0, 0, [0; 4]);
@@ -189,10 +216,8 @@ fn changes_that_keep_a_sheet_sound() {
         }
         assert_eq!(sorted(&again), sorted(&sheet));
         let count = |sheet: &Sheet| declared::outlines(&read_edges(sheet)).len();
-        assert_eq!(
-            (count(&round), count(&pushed)),
-            (count(&sheet), count(&sheet))
-        );
+        assert_eq!(count(&pushed), count(&sheet));
+        check_turned(&read_edges(&sheet), &read_edges(&round));
         turned += (sorted(&round) != sorted(&sheet)) as usize;
         reordered += (again != sheet) as usize;
         let pushed = read_edges(&pushed);

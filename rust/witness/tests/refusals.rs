@@ -1,10 +1,13 @@
-//! Refusals 1 to 9 and 16 held against a statement of them that looks at all
+//! Refusals 1 to 9, 16 and 17 held against a statement of them that looks at all
 //! pairs of edges: for calls damaged on purpose once or twice, for lists of
 //! random numbers, and for every list of up to four edges on four points, in one
 //! film and in two.
 
+mod clockwise;
+
 use std::collections::BTreeMap;
 
+use clockwise::{alike, is_between};
 use witness::call::Call;
 use witness::checks::{BY_EDGE, IN_ORDER};
 use witness::declared;
@@ -17,7 +20,7 @@ type At = (i64, i64);
 /// An edge: its tail, its head and its film.
 type Ends = (At, At, i64);
 
-/// What the table of document 01, with M-100 and M-101, says of a call, row by row;
+/// What the table of document 01, with M-100, M-101 and M-104, says of a call, row by row;
 /// nothing when none of the refusals before 10 is due.
 fn stated(call: &Call) -> Option<(u32, u32)> {
     let edges = call.edges.len() / 5;
@@ -39,6 +42,7 @@ fn stated(call: &Call) -> Option<(u32, u32)> {
     stated_by_itself(&list)
         .or_else(|| first(&list, |edge| has_earlier_kind(&list, edge)).map(|place| (8, place)))
         .or_else(|| first(&list, |edge| is_open(&list, edge)).map(|place| (9, place)))
+        .or_else(|| first(&list, |edge| is_twisted(&list, edge)).map(|place| (17, place)))
 }
 
 fn first(list: &[Ends], fault: impl Fn(usize) -> bool) -> Option<u32> {
@@ -94,6 +98,39 @@ fn is_open(list: &[Ends], edge: usize) -> bool {
         leaving != arriving
     };
     differs(list[edge].0) || differs(list[edge].1)
+}
+
+/// The ways from a point along the edges of a film that leave it, and back along
+/// those that arrive.
+fn ways(list: &[Ends], point: At, film: i64) -> [Vec<At>; 2] {
+    let of_film = || list.iter().filter(|edge| edge.2 == film);
+    let way = |to: At| (to.0 - point.0, to.1 - point.1);
+    let leaving = of_film().filter(|edge| edge.0 == point);
+    let arriving = of_film().filter(|edge| edge.1 == point);
+    [
+        leaving.map(|edge| way(edge.1)).collect(),
+        arriving.map(|edge| way(edge.0)).collect(),
+    ]
+}
+
+/// Whether at an end of the edge two edges of its film arrive and two leave, and
+/// not exactly one of the leaving ones lies between the arriving ones, on either
+/// side; or whether two of the four lie in one direction.
+fn is_twisted(list: &[Ends], edge: usize) -> bool {
+    let (tail, head, film) = list[edge];
+    [tail, head].into_iter().any(|point| {
+        let [leaving, arriving] = ways(list, point, film);
+        if leaving.len() < 2 {
+            return false;
+        }
+        let inside = |from: usize, to: usize| {
+            let between = |way: &&At| is_between(arriving[from], **way, arriving[to]);
+            leaving.iter().filter(between).count()
+        };
+        let all = [leaving.clone(), arriving.clone()].concat();
+        let repeats = |at: usize| all[..at].iter().any(|way| alike(*way, all[at]));
+        (0..4).any(repeats) || inside(0, 1) != 1 || inside(1, 0) != 1
+    })
 }
 
 /// Checks the answer to a call and gives its refusal's number, 0 if accepted.
@@ -275,6 +312,7 @@ fn every_list_of_up_to_four_edges_on_four_points() {
         (8, 5_000),
         (9, 300),
         (10, 30),
+        (17, 10),
     ];
     let enough = |(refusal, times): &(u32, usize)| met[refusal] > *times;
     assert!(least.iter().all(enough), "{:?}", met);

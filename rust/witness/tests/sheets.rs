@@ -5,8 +5,11 @@
 use std::ops::Range;
 
 use witness::call::{Call, Outcome, TurnCall};
+use witness::corners::Meetings;
 use witness::declared;
-use witness::generate::{any, comb, in_films, layered, mosaic, patchwork, pixels, saw, soup};
+use witness::generate::{
+    any, chessboard, comb, in_films, layered, mosaic, patchwork, pixels, saw, soup,
+};
 use witness::generate::{some_films, spiral, squares, turned_round, walks, Random, Seed, Sheet};
 use witness::geometry::{read_edges, Edge, Point, Site};
 use witness::steps::{sweep_down, sweep_up};
@@ -20,6 +23,8 @@ struct Met {
     empty: usize,
     touching_sheets: usize,
     touching_points: usize,
+    apart_points: usize,
+    apart_sheets: usize,
     many_outlines: usize,
     highest_level: i32,
     highest_peak: usize,
@@ -48,6 +53,8 @@ impl Met {
         self.empty += other.empty;
         self.touching_sheets += other.touching_sheets;
         self.touching_points += other.touching_points;
+        self.apart_points += other.apart_points;
+        self.apart_sheets += other.apart_sheets;
         self.many_outlines += other.many_outlines;
         self.highest_level = self.highest_level.max(other.highest_level);
         self.highest_peak = self.highest_peak.max(other.highest_peak);
@@ -161,7 +168,8 @@ fn check_turns(edges: &[Edge], outcome: &Outcome, polygons: usize) {
 }
 
 fn count(edges: &[Edge], polygons: usize, peak: usize, met: &mut Met) {
-    let touching = declared::touching_sites(edges).len();
+    let meetings = Meetings::of(edges);
+    let (touching, apart) = (meetings.corners().count(), meetings.apart().len());
     let records = sweep_up(edges, usize::MAX).unwrap().records;
     let level = records.iter().map(|record| record.level).max();
     let level_edge = |edge: &&Edge| edge.tail.y == edge.head.y;
@@ -170,6 +178,8 @@ fn count(edges: &[Edge], polygons: usize, peak: usize, met: &mut Met) {
         empty: edges.is_empty() as usize,
         touching_sheets: (touching > 0) as usize,
         touching_points: touching,
+        apart_points: apart,
+        apart_sheets: (apart > 0) as usize,
         many_outlines: (polygons > 1) as usize,
         highest_level: level.unwrap_or(0),
         highest_peak: peak,
@@ -199,7 +209,11 @@ fn sheets_of_every_shape() {
     let met = check_seeds(0..16_000, any);
     assert_eq!(met.sheets, 16_000);
     assert!((1..1_600).contains(&met.empty), "{} empty", met.empty);
-    assert!(met.touching_sheets > 5_000, "{}", met.touching_sheets);
+    assert!(met.touching_sheets > 4_000, "{}", met.touching_sheets);
+    let joined = met.touching_points - met.apart_points;
+    assert!(met.apart_sheets > 3_000, "{}", met.apart_sheets);
+    assert!(met.apart_points > 5_000, "{}", met.apart_points);
+    assert!(joined > 5_000, "{}", joined);
     assert!(met.many_outlines > 5_000, "{}", met.many_outlines);
     assert!(met.refused_rows > 25_000, "{}", met.refused_rows);
     assert!(met.level_edges > 50_000, "{}", met.level_edges);
@@ -211,12 +225,14 @@ fn sheets_of_every_shape() {
 #[test]
 fn touching_walks() {
     let make = |random: &mut Random| {
-        let side = random.between(2, 8);
-        walks(random, side, 60, &[9])
+        let side = random.between(4, 10);
+        walks(random, side, 100, &[9])
     };
-    let met = check_seeds(100_000..105_000, make);
-    assert!(met.touching_sheets > 4_500, "{}", met.touching_sheets);
-    assert!(met.touching_points > 30_000, "{}", met.touching_points);
+    let met = check_seeds(100_000..102_500, make);
+    assert!(met.touching_sheets > 2_200, "{}", met.touching_sheets);
+    let joined = met.touching_points - met.apart_points;
+    assert!(met.apart_points > 7_000, "{}", met.apart_points);
+    assert!(joined > 7_000, "{}", joined);
 }
 
 #[test]
@@ -227,6 +243,7 @@ fn pixel_art() {
     };
     let met = check_seeds(200_000..201_500, make);
     assert_eq!(met.touching_sheets, 1_500);
+    assert!(met.touching_points > 20_000, "{}", met.touching_points);
     assert!(met.many_outlines > 1_400, "{}", met.many_outlines);
 }
 
@@ -283,6 +300,8 @@ fn large_sheets() {
     assert_eq!(check_seeds(4..5, make).largest, 4096);
     let make = |random: &mut Random| squares(random, 32, 32);
     assert_eq!(check_seeds(5..6, make).largest, 4096);
+    let make = |random: &mut Random| chessboard(random, 45, 45);
+    assert_eq!(check_seeds(5..6, make).apart_points, 44 * 22);
     let make = |random: &mut Random| pixels(random, 52, 52, 50, false);
     assert!(check_seeds(6..8, make).touching_points > 400);
     let make = |random: &mut Random| soup(random, 1, 4096, 1_000_000, &[255]);

@@ -5,8 +5,9 @@
 use witness::call::{Call, Outcome};
 use witness::declared;
 use witness::geometry::{read_edges, MOST_EDGES, NUMBERS_PER_EDGE};
-use witness::worked::{accepted_by_document_01, accepted_in_films, touching, TWO_PEAKS};
-use witness::worked::{refused_by_document_01, refused_for_films, Pair, Worked, TRIANGLE};
+use witness::worked::{accepted_at_corners, accepted_by_document_01, accepted_in_films};
+use witness::worked::{refused_at_corners, refused_by_document_01, refused_for_films};
+use witness::worked::{touching, Pair, Worked, TRIANGLE, TWO_PEAKS};
 use witness::{assemble, outline, Answer, Refusal};
 
 fn accepted(polygons: u32, peak: u32, records: u32) -> Answer {
@@ -40,18 +41,22 @@ fn check_accepted(worked: Worked) {
 
 #[test]
 fn accepted_by_hand() {
-    accepted_by_document_01()
-        .into_iter()
-        .for_each(check_accepted);
-    accepted_in_films().into_iter().for_each(check_accepted);
+    let sheets = [
+        accepted_by_document_01(),
+        accepted_in_films(),
+        accepted_at_corners(),
+    ];
+    sheets.into_iter().flatten().for_each(check_accepted);
 }
 
 #[test]
 fn refused_by_hand() {
-    for worked in refused_by_document_01() {
-        worked.check(&worked.call.outcome(assemble));
-    }
-    for worked in refused_for_films() {
+    let sheets = [
+        refused_by_document_01(),
+        refused_for_films(),
+        refused_at_corners(),
+    ];
+    for worked in sheets.into_iter().flatten() {
         worked.check(&worked.call.outcome(assemble));
     }
 }

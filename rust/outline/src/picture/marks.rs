@@ -16,6 +16,9 @@ const ARROW: f64 = 9.0;
 const DOT: f64 = 5.5;
 const DASH: f64 = 6.0;
 
+/// How much of an edge is cut off at a point where four meet.
+const CUT: f64 = 8.0;
+
 /// The width of an outline's line.
 pub const LINE: f64 = 2.2;
 
@@ -52,42 +55,59 @@ pub fn draw_film(sheet: &Sheet, frame: &Frame, canvas: &mut Canvas) {
         } else {
             "fill=\"#ffffff\"".to_string()
         };
-        canvas.add(&format!("<path {} d=\"{}\"/>", film, line(round, frame)));
+        let line = line(round, sheet, frame);
+        canvas.add(&format!("<path {} d=\"{}\"/>", film, line));
     }
     canvas.close();
 }
 
-/// The closed line of an outline.
-fn line(round: &Round, frame: &Frame) -> String {
-    let corner = |point: &Point| shown_spot(frame.spot(*point));
-    let corners: Vec<String> = round.corners.iter().map(corner).collect();
-    format!("M{}Z", corners.join("L"))
+/// The closed line of an outline. Where four edges of its film meet its corner is
+/// cut, on the side of its own film, so that two outlines that touch there, or
+/// one that comes there twice, can be seen to be apart.
+fn line(round: &Round, sheet: &Sheet, frame: &Frame) -> String {
+    let count = round.corners.len();
+    let spot = |at: usize| frame.spot(round.corners[at % count]);
+    let mut spots = Vec::new();
+    for (at, corner) in round.corners.iter().enumerate() {
+        if sheet.is_met_twice(*corner, round.film) {
+            let cut = |to: Spot| short_of(spot(at), to, CUT * frame.size);
+            spots.extend([spot(at + count - 1), spot(at + 1)].map(cut));
+        } else {
+            spots.push(spot(at));
+        }
+    }
+    let spots: Vec<String> = spots.into_iter().map(shown_spot).collect();
+    format!("M{}Z", spots.join("L"))
+}
+
+/// The spot so far from a corner on the way to the next, which is not reached.
+fn short_of(corner: Spot, next: Spot, far: f64) -> Spot {
+    let way = next - corner;
+    corner + way.unit() * far.min(0.3 * way.length())
 }
 
 /// The lines of all outlines. A side that two films share is covered by the later
 /// outline's line; thinner dashes in the opposite order bring the earlier one's
 /// back, so that both colours show there and nothing changes elsewhere.
 fn draw_lines(sheet: &Sheet, frame: &Frame, canvas: &mut Canvas) {
+    let mut draw = |round: &Round, kind: &str, width: f64| {
+        canvas.add(&format!(
+            "<path {} fill=\"none\" stroke=\"{}\" stroke-width=\"{}\" stroke-linejoin=\"round\" d=\"{}\"/>",
+            kind,
+            colour::of_film(round.film),
+            shown(width * frame.size),
+            line(round, sheet, frame)
+        ));
+    };
     for round in &sheet.rounds {
-        draw_line(round, "class=\"outline\"", LINE, frame, canvas);
+        draw(round, "class=\"outline\"", LINE);
     }
     if sheet.films > 1 {
         let dashes = format!("stroke-dasharray=\"{}\"", shown(DASH * frame.size));
         for round in sheet.rounds.iter().rev() {
-            draw_line(round, &dashes, CORE, frame, canvas);
+            draw(round, &dashes, CORE);
         }
     }
-}
-
-/// The line of an outline in its film's colour.
-fn draw_line(round: &Round, kind: &str, width: f64, frame: &Frame, canvas: &mut Canvas) {
-    canvas.add(&format!(
-        "<path {} fill=\"none\" stroke=\"{}\" stroke-width=\"{}\" stroke-linejoin=\"round\" d=\"{}\"/>",
-        kind,
-        colour::of_film(round.film),
-        shown(width * frame.size),
-        line(round, frame)
-    ));
 }
 
 /// An arrow head past the middle of each edge of an outline.

@@ -40,8 +40,10 @@ impl Round {
 pub struct Sheet {
     /// The outlines in the order of their numbers.
     pub rounds: Vec<Round>,
-    /// The points where four edges of a film meet, lowest first.
+    /// The points where four edges of a film meet, each once, lowest first.
     pub touching: Vec<Point>,
+    /// The same with the films whose edges meet there.
+    met_twice: BTreeSet<(Point, u8)>,
     /// How many films there are.
     pub films: usize,
     /// How many edges there are.
@@ -65,12 +67,22 @@ impl Sheet {
         };
         let rounds: Vec<Round> = (1..=outlines.count()).filter_map(round).collect();
         let films: BTreeSet<u8> = rounds.iter().map(|round| round.film).collect();
+        let met_twice = met_twice(&rounds);
+        let mut touching: Vec<Point> = met_twice.iter().map(|(point, _)| *point).collect();
+        touching.sort_by_key(|(x, y)| (*y, *x));
+        touching.dedup();
         Sheet {
-            touching: met_twice(&rounds),
+            touching,
+            met_twice,
             films: films.len(),
             rounds,
             edges: edges.len() / NUMBERS_PER_EDGE,
         }
+    }
+
+    /// Whether four edges of this film meet at a point.
+    pub fn is_met_twice(&self, point: Point, film: u8) -> bool {
+        self.met_twice.contains(&(point, film))
     }
 
     /// All corners of all outlines.
@@ -81,25 +93,15 @@ impl Sheet {
     }
 }
 
-/// The points that outlines of one film come to twice: two of its edges arrive
-/// and two leave.
-fn met_twice(rounds: &[Round]) -> Vec<Point> {
-    let of_round = |round: &Round| {
-        let film = round.film;
-        let corner = move |(x, y): (i32, i32)| (y, x, film);
-        round
-            .corners
-            .iter()
-            .copied()
-            .map(corner)
-            .collect::<Vec<_>>()
-    };
-    let mut times: BTreeMap<(i32, i32, u8), usize> = BTreeMap::new();
-    for corner in rounds.iter().flat_map(of_round) {
-        *times.entry(corner).or_insert(0) += 1;
+/// The points that outlines of one film come to twice, each with that film: two of
+/// its edges arrive and two leave.
+fn met_twice(rounds: &[Round]) -> BTreeSet<(Point, u8)> {
+    let mut times: BTreeMap<(Point, u8), usize> = BTreeMap::new();
+    for round in rounds {
+        for corner in &round.corners {
+            *times.entry((*corner, round.film)).or_insert(0) += 1;
+        }
     }
     let twice = times.into_iter().filter(|(_, times)| *times == 2);
-    let mut points: Vec<Point> = twice.map(|((y, x, _), _)| (x, y)).collect();
-    points.dedup();
-    points
+    twice.map(|(corner, _)| corner).collect()
 }

@@ -10,6 +10,7 @@ use crate::declared::sufficient_rows;
 use crate::geometry::{read_edges, write_edges, Edge, Point, MOST_EDGES, NUMBERS_PER_EDGE};
 use crate::steps::{sweep_up, NUMBERS_PER_ROW};
 
+use super::twists::twisting;
 use super::{any, Random, Sheet};
 
 /// A call that must get this refusal, one of those tried on an assembling call.
@@ -41,6 +42,7 @@ pub fn damage(random: &mut Random, call: &mut Call, refusal: u32) -> bool {
         7 => out_of_order(random, call),
         8 => has_edges && kind_taken(random, call),
         9 => has_edges && open_end(random, call),
+        17 => has_edges && not_alternating(random, call),
         10 => too_few_rows(random, call),
         _ => false,
     }
@@ -164,6 +166,14 @@ fn kind_taken(random: &mut Random, call: &mut Call) -> bool {
         let bent = bent_bottom(random, added);
         added = bent.unwrap_or(added);
     }
+    insert_in_order(random, &mut edges, added);
+    call.edges = write_edges(&edges);
+    call.fit();
+    true
+}
+
+/// Puts an edge where its top belongs, among equal tops anywhere.
+fn insert_in_order(random: &mut Random, edges: &mut Vec<Edge>, added: Edge) {
     let place = edges.iter().filter(|edge| edge.top() < added.top()).count();
     let last = edges
         .iter()
@@ -171,6 +181,19 @@ fn kind_taken(random: &mut Random, call: &mut Call) -> bool {
         .count();
     let place = place + random.below(last - place + 1);
     edges.insert(place, added);
+}
+
+/// Adds an outline through a point where two edges meet, so that four do that do
+/// not alternate.
+fn not_alternating(random: &mut Random, call: &mut Call) -> bool {
+    let mut edges = read_edges(&call.edges);
+    let outline = match twisting(random, &edges) {
+        Some(outline) if edges.len() + outline.len() <= MOST_EDGES => outline,
+        _ => return false,
+    };
+    for edge in outline {
+        insert_in_order(random, &mut edges, edge);
+    }
     call.edges = write_edges(&edges);
     call.fit();
     true

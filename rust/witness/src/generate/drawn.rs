@@ -1,7 +1,7 @@
-//! Three shapes drawn by rule: the comb, with all its highest points side by
-//! side; the spiral, with all its chains inside one another; and the grid of
-//! squares, with many outlines at once. Each can be made as large as a list may
-//! be. All are of film 0.
+//! Four shapes drawn by rule: the comb, with all its highest points side by
+//! side; the spiral, with all its chains inside one another; the grid of squares,
+//! with many outlines at once; and the chessboard, whose squares touch. Each can
+//! be made as large as a list may be. All are of film 0.
 
 use crate::geometry::{Edge, Point};
 
@@ -55,10 +55,30 @@ pub fn spiral(random: &mut Random, corners: usize) -> Sheet {
 pub fn squares(random: &mut Random, columns: usize, rows: usize) -> Sheet {
     let side = random.between(1, 3);
     let step = side + random.between(1, 3);
+    let all = |_| true;
+    grid_of_squares(random, (columns, rows), (side, step), all)
+}
+
+/// The fields of one colour on a chessboard, that of the lower left corner among
+/// them; four edges a field, up to 1,024. Four edges meet at every inner corner.
+pub fn chessboard(random: &mut Random, columns: usize, rows: usize) -> Sheet {
+    let side = random.between(1, 3);
+    let dark = |(column, row): (usize, usize)| (column + row) % 2 == 0;
+    grid_of_squares(random, (columns, rows), (side, side), dark)
+}
+
+/// Those squares of a grid that are wanted, of this side and so far from one to
+/// the next, each with its inside on the left.
+fn grid_of_squares(
+    random: &mut Random,
+    (columns, rows): (usize, usize),
+    (side, step): (i32, i32),
+    is_wanted: impl Fn((usize, usize)) -> bool,
+) -> Sheet {
     let mut edges: Vec<Edge> = Vec::new();
-    for square in 0..columns * rows {
-        let x = step * (square % columns) as i32;
-        let y = step * (square / columns) as i32;
+    let squares = (0..columns * rows).map(|square| (square % columns, square / columns));
+    for (column, row) in squares.filter(|at| is_wanted(*at)) {
+        let (x, y) = (step * column as i32, step * row as i32);
         edges.extend(closed(&[
             Point::new(x, y),
             Point::new(x + side, y),

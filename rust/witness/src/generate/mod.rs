@@ -1,8 +1,8 @@
 //! Sheets for tests: every maker here gives an edge list that is sound and in
-//! sweep order by document 01, with edges of equal tops in random order, in one
-//! film or several. All chance comes from a `Random`, whose seed is printed when
-//! a test fails. `damage` and `spoil_cutting` spoil a call so that a chosen refusal
-//! must come.
+//! sweep order by document 01 and alternates by M-104 wherever four edges of a
+//! film meet, with edges of equal tops in random order, in one film or several.
+//! All chance comes from a `Random`, whose seed is printed when a test fails.
+//! `damage` and `spoil_cutting` spoil a call so that a chosen refusal must come.
 
 mod cuts;
 mod damage;
@@ -14,14 +14,15 @@ mod random;
 mod saws;
 mod sound;
 mod soups;
+mod twists;
 mod walks;
 
 pub use cuts::{any_cutting, cutting, spoil_cutting};
 pub use damage::{damage, damaged};
-pub use drawn::{comb, spiral, squares};
+pub use drawn::{chessboard, comb, spiral, squares};
 pub use films::{in_films, layered, some_films};
 pub use order::{in_sweep_order, moved, turned_round};
-pub use pixels::{mosaic, patchwork, pixels};
+pub use pixels::{mosaic, of_bitmap, patchwork, pixels, Bitmap};
 pub use random::{Random, Seed};
 pub use saws::{saw, saws};
 pub use soups::soup;
@@ -32,7 +33,7 @@ pub type Sheet = Vec<i32>;
 
 /// A small sheet of any shape: at most some three hundred edges, mostly far
 /// fewer, now and then none, in one film to five, in half of the cases with some
-/// of its outlines run the other way, at times pushed into a corner of the range.
+/// of its parts run the other way, at times pushed into a corner of the range.
 pub fn any(random: &mut Random) -> Sheet {
     let films = some_films(random);
     let mut sheet = any_shape(random, &films);
@@ -84,7 +85,7 @@ fn any_pixels(random: &mut Random, films: &[i32]) -> Sheet {
 
 /// One of the shapes drawn by rule.
 fn any_drawn(random: &mut Random, size: usize) -> Sheet {
-    match random.below(5) {
+    match random.below(6) {
         0 => comb(random, size),
         1 => spiral(random, 2 * size),
         2 => saw(random, size as u32),
@@ -92,6 +93,7 @@ fn any_drawn(random: &mut Random, size: usize) -> Sheet {
             let outlines: Vec<Vec<usize>> = (0..size).map(|_| some_teeth(random)).collect();
             saws(random, &outlines)
         }
+        4 => chessboard(random, size, 8 - size),
         _ => squares(random, size, 7 - size),
     }
 }

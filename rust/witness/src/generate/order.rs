@@ -1,9 +1,10 @@
 //! Edges put into a sheet: in the sweep order of document 01, edges of equal
 //! tops in random order; and what may be done to a sound sheet as a whole.
-//! An outline run the other way keeps the list sound, since wherever four kinds
-//! meet its two edges lie on one side of the point.
+//! A part, that is, all edges of one film that are linked through shared points,
+//! stays sound when all of it is run the other way. An outline alone does not:
+//! where it meets another edges would no longer alternate.
 
-use crate::declared::outlines;
+use crate::declared::parts;
 use crate::geometry::{read_edges, write_edges, Edge, Point};
 
 use super::{Random, Sheet};
@@ -15,12 +16,13 @@ pub fn in_sweep_order(random: &mut Random, mut edges: Vec<Edge>) -> Sheet {
     write_edges(&edges)
 }
 
-/// A sound sheet with each of its outlines either left or run the other way.
+/// A sound sheet with each of its parts either left or run the other way. What
+/// was apart at a corner is then joined there, and the other way round.
 pub fn turned_round(random: &mut Random, sheet: &[i32]) -> Sheet {
     let mut edges = read_edges(sheet);
-    for outline in outlines(&edges) {
+    for part in parts(&edges) {
         if random.one_in(2) {
-            for place in outline {
+            for place in part {
                 edges[place] = edges[place].reversed();
             }
         }

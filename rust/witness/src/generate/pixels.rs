@@ -1,6 +1,6 @@
 //! Pixel art: the boundary of each film in a bitmap, directed so that film lies
 //! on the left. Where a film touches itself only across a corner all four kinds
-//! of edge meet; pixels of two films side by side both have the side between
+//! of edge meet, and alternate as film and no film do; pixels of two films side by side both have the side between
 //! them, run opposite ways. Either one edge a pixel side, or with straight runs
 //! drawn as one edge.
 
@@ -10,8 +10,8 @@ use crate::geometry::{Edge, Point, Site, MOST_EDGES};
 
 use super::{in_sweep_order, Random, Sheet};
 
-/// A film for each pixel, or none, column by column.
-type Bitmap = Vec<Vec<Option<i32>>>;
+/// A film for each pixel, or none, column by column from the bottom up.
+pub type Bitmap = Vec<Vec<Option<i32>>>;
 
 /// The outlines of a random bitmap in which each pixel is film 0 with this many
 /// chances in a hundred.
@@ -27,7 +27,7 @@ pub fn pixels(
 ) -> Sheet {
     let film = |random: &mut Random| Some(0).filter(|_| random.below(100) < percent);
     let bitmap = bitmap(width, height, |_| film(random));
-    sheet(random, &bitmap, merged)
+    of_bitmap(random, &bitmap, merged)
 }
 
 /// The outlines of a random bitmap in which each pixel is one of these films or,
@@ -44,7 +44,7 @@ pub fn mosaic(
 ) -> Sheet {
     let film = |random: &mut Random| films.get(random.below(films.len() + 1)).copied();
     let bitmap = bitmap(width, height, |_| film(random));
-    sheet(random, &bitmap, merged)
+    of_bitmap(random, &bitmap, merged)
 }
 
 /// Pixels without a gap between them, each in a film of its own as far as there
@@ -55,7 +55,7 @@ pub fn patchwork(random: &mut Random, columns: usize, rows: usize) -> Sheet {
     let bitmap = bitmap(columns, rows, |(x, y)| {
         Some(((columns * y + x) % films) as i32)
     });
-    sheet(random, &bitmap, false)
+    of_bitmap(random, &bitmap, false)
 }
 
 /// The bitmap with these films.
@@ -69,7 +69,10 @@ fn bitmap(
 }
 
 /// The outlines of a bitmap.
-fn sheet(random: &mut Random, bitmap: &Bitmap, merged: bool) -> Sheet {
+///
+/// # Panics
+/// When the sheet would have more edges than a list may hold.
+pub fn of_bitmap(random: &mut Random, bitmap: &Bitmap, merged: bool) -> Sheet {
     let mut edges = boundary(bitmap);
     if merged {
         edges = straightened(edges);

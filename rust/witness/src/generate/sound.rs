@@ -1,32 +1,34 @@
-//! Edges gathered so that the list stays sound by document 01: at each point at
-//! most one edge of each kind and film. Closed walks keep as many arriving as
-//! leaving, so a walk is taken whole or not at all.
+//! Edges gathered so that the list stays sound: at each point at most one edge of
+//! each kind and film by document 01, and four of them alternating by M-104.
+//! Closed walks keep as many arriving as leaving, so a walk is taken whole or not
+//! at all.
 
-use std::collections::BTreeSet;
-
-use crate::geometry::{Edge, Kind, Point, Site, MOST_EDGES};
+use crate::corners::Meetings;
+use crate::geometry::{Edge, Point, MOST_EDGES};
 
 /// A growing sound list.
 #[derive(Clone, Default)]
 pub struct Sound {
     edges: Vec<Edge>,
-    taken: BTreeSet<(Site, Kind)>,
+    meetings: Meetings,
 }
 
 impl Sound {
-    /// Whether the edge has two ends and finds its kinds free at both.
-    pub fn fits(&self, edge: Edge) -> bool {
-        edge.tail != edge.head
-            && self.edges.len() < MOST_EDGES
-            && !edge.ends().iter().any(|end| self.taken.contains(end))
-    }
-
-    /// Takes the edge if it fits, and says whether.
+    /// Takes the edge if it has two ends and what meets at both is fit with it,
+    /// and says whether.
     pub fn take(&mut self, edge: Edge) -> bool {
-        let fits = self.fits(edge);
+        let place = self.edges.len();
+        if edge.tail == edge.head || place == MOST_EDGES {
+            return false;
+        }
+        self.meetings.add(place, edge);
+        let meeting = |(site, _)| self.meetings.at(site);
+        let mut meetings = edge.ends().into_iter().filter_map(meeting);
+        let fits = meetings.all(|meeting| meeting.is_fit());
         if fits {
             self.edges.push(edge);
-            self.taken.extend(edge.ends());
+        } else {
+            self.meetings.remove(place, edge);
         }
         fits
     }
@@ -44,10 +46,8 @@ impl Sound {
 
     /// Gives back all edges but the first ones.
     pub fn cut_back(&mut self, length: usize) {
-        for edge in self.edges.drain(length..) {
-            for end in edge.ends() {
-                self.taken.remove(&end);
-            }
+        for (further, edge) in self.edges.drain(length..).enumerate() {
+            self.meetings.remove(length + further, edge);
         }
     }
 

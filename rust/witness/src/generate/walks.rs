@@ -11,7 +11,7 @@ use super::{in_sweep_order, Random, Sheet};
 const LONGEST_WALK: usize = 24;
 
 /// How many next points are tried before a walk is given up.
-const TRIES_PER_STEP: usize = 10;
+const TRIES_PER_STEP: usize = 30;
 
 /// Tries so many closed walks on a grid of `side` times `side` points, each in
 /// one of these films, and keeps those that can be kept.

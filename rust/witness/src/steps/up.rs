@@ -1,10 +1,14 @@
 //! "The sweep up" of document 01, rows given back in the order of M-103: edges
 //! are hung on the rising and falling branches of chains, one row a chain; a
 //! chain finished on both sides gives its row back and is passed up as an edge
-//! of the next level. An edge hangs only on chains of its own film. Each of the
+//! of the next level. An edge hangs only on chains of its own film, and no branch
+//! is finished at a corner whose lower edges are apart by M-104. Each of the
 //! paper's four steps has its functions, said once for both directions with
 //! `Branch` choosing. Only for sound lists in sweep order.
 
+use std::collections::BTreeSet;
+
+use crate::corners::Meetings;
 use crate::geometry::{Edge, Point, Site};
 
 use super::row::{Branch, Lengths, Row};
@@ -24,6 +28,7 @@ pub struct Swept {
 pub fn sweep_up(edges: &[Edge], rows: usize) -> Result<Swept, usize> {
     let mut sweep = Sweep {
         lent: rows,
+        apart: Meetings::of(edges).apart(),
         rows: Vec::new(),
         records: Vec::new(),
         peak: 0,
@@ -51,6 +56,7 @@ struct NoFreeRow;
 /// of `rows`, up to the number lent, were never opened.
 struct Sweep {
     lent: usize,
+    apart: BTreeSet<Site>,
     rows: Vec<Option<Row>>,
     records: Vec<Record>,
     peak: usize,
@@ -152,7 +158,7 @@ impl Sweep {
         branch: Branch,
         top: Site,
     ) -> Result<(), NoFreeRow> {
-        let met = match self.find(level, branch.other(), top) {
+        let met = match self.waiting(level, branch.other(), top) {
             Some(met) => met,
             None => return Ok(()),
         };
@@ -163,6 +169,15 @@ impl Sweep {
             return Ok(());
         }
         self.pass_up_if_finished(row)
+    }
+
+    /// The row that step 4 finds. It finds none for an edge of the list whose top
+    /// is a corner that is apart.
+    fn waiting(&self, level: i32, branch: Branch, top: Site) -> Option<usize> {
+        if level == 0 && self.apart.contains(&top) {
+            return None;
+        }
+        self.find(level, branch, top)
     }
 
     /// Frees the row of a finished chain and passes the chain up as an edge of
