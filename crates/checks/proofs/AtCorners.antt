@@ -1,9 +1,9 @@
 -- A place with four ends, in a list that passes 8 and 9. The words of its ends rise, and no two are of one kind, so they stand by kind: each is the edge of its
 -- kind there. So the turns that the code computes below and above the place are those of its corner.
 use mathlib.Core.Path.{_≡_, refl, sym, ap, _∙_}
-use mathlib.Core.Bool.{Bool, true, false, not, cond, _&&_}
+use mathlib.Core.Bool.{Bool, true, false, not, cond}
 use mathlib.Core.List.{List}
-use mathlib.Core.Logic.{_⊎_, inl, inr, ⊎-elim}
+use mathlib.Core.Logic.{_⊎_, ⊎-elim}
 use Prim.Native.Nat.{ℕ, _+_, _-_, _*_, _/_, _<_, _≤_}
 use native.Mathlib.Omega.{arith}
 use lib.Dec.{eqb, ltb}
@@ -12,14 +12,14 @@ use lib.ListN.{getD}
 use mir.Syntax.{w64}
 use mir.Val.{toZ, ofZ}
 use mir.ValLaws.{toZ-ofZ}
-use borrow.Author.Tests.{lt-ltb, le-ltb, ltb-true, ltb-false}
-use Rattle.laws.proofs.Deciding.{lt-or-le, not-both}
+use borrow.Author.Tests.{lt-ltb, le-ltb}
+use Rattle.laws.proofs.Deciding.{lt-or-le}
 use Rattle.laws.proofs.Tests.{and-true, and-false}
 use Rattle.sheet.specs.Points.{isBelow}
 use Rattle.sheet.specs.Turning.{Sign, plus, isSign, cross, turn}
 use Rattle.sheet.specs.Edges.{edgeAt, drawingOf}
 use Rattle.sheet.specs.Kinds.{Way, arriving, leaving, otherWay, From, below, above, endOf, comes, numberAt}
-use Rattle.sheet.specs.Corners.{along, four, ofKind, cornerAt, alternate, lowerApart, apart}
+use Rattle.sheet.specs.Corners.{along, four, ofKind, cornerAt, alternate, apart}
 use Rattle.sheet.specs.Answers.{tangled}
 use Rattle.sheet.proofs.Places.{place-below, place-parts}
 use Rattle.sheet.proofs.AtAPlace.{of-kind}
@@ -29,12 +29,12 @@ use Rattle.corner.proofs.SidesOfPoints.{side-below, side-above}
 use Rattle.corner.proofs.Corners.{alternate-is, apart-is}
 use Rattle.corner.proofs.Sizes.{near, cross-fits}
 use Rattle.checks.specs.Faults.{EndsFit}
-use Rattle.checks.specs.Ends.{wayNumber, fromNumber, wordOf, keyIn, placeIn, edgeIn, IsEnd}
+use Rattle.checks.specs.Ends.{wordOf, keyIn, placeIn, edgeIn, IsEnd}
 use Rattle.checks.specs.Places.{AtPlace}
 use Rattle.checks.specs.Corners.{parts, turnIn, SoundEnds, kindNumber, FourEnds}
 use Rattle.checks.proofs.EdgeFaults.{tail-in, head-in, film-in}
 use Rattle.checks.proofs.Words.{from-small, way-small, word-key, rises-to, falls-to}
-use Rattle.checks.proofs.ByWords.{one-spot, number-told, place-told, edge-told, key-way}
+use Rattle.checks.proofs.ByWords.{number-told, place-told, edge-told, key-way}
 use Rattle.checks.proofs.Visiting.{ends-between}
 
 -- a kind's number tells the kind

@@ -1,19 +1,16 @@
 -- What every later step goes by: a call that passes the eleven checks has its lists of the right lengths, every end and film in the range, and a checked
 -- sheet. Each field of `Checked` is one of 5 to 9, 16 or 17 that was not given; a place is told by its height and its film.
-use mathlib.Core.Path.{_≡_, refl, sym, ap, _∙_}
+use mathlib.Core.Path.{_≡_, sym, ap, _∙_}
 use mathlib.Core.Bool.{true, false}
 use mathlib.Core.List.{List}
-use mathlib.Core.Logic.{⊎-elim}
 use Prim.Native.Nat.{ℕ, suc, _*_, _/_, _%_, _≤_, _<_}
 use native.Mathlib.Numerals.{add-one}
 use native.Mathlib.Omega.{arith}
 use lib.IntN.{ℤ}
 use lib.ListN.{length}
-use borrow.Author.Tests.{ltb-false, eqb-true, eq-eqb, ne-eqb}
-use Rattle.laws.proofs.Deciding.{lt-or-le, true-or-false, not-both, both-true, neither-true}
+use borrow.Author.Tests.{ltb-false, eqb-true, eq-eqb}
+use Rattle.laws.proofs.Deciding.{not-both, both-true, neither-true}
 use Rattle.laws.proofs.Tests.{not-false}
-use Rattle.laws.proofs.Counting.{count-none}
-use Rattle.laws.proofs.First.{none-below}
 use Rattle.laws.proofs.Searching.{NoneBelow}
 use Rattle.sheet.specs.declared.Check.the-variants.{Passed}
 use Rattle.sheet.specs.Points.{inRange, isFilm, topOf}

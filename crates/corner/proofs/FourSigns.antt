@@ -1,7 +1,7 @@
 -- Four directions, two below and two above, by the signs of the six turns between them: arriving to leaving below (al) and above (AL), and from those
 -- below to those above. Each three of the four say what the turns can be; then every case is tried.
 use mathlib.Core.Path.{_≡_, refl}
-use mathlib.Core.Bool.{Bool, true, false, not, _&&_, _||_}
+use mathlib.Core.Bool.{Bool, true, not, _&&_, _||_}
 use Rattle.sheet.specs.Turning.{Sign, nought, plus, isSign, soonerBy}
 use Rattle.sheet.specs.Kinds.{From, below, above, sameFrom}
 use Rattle.sheet.proofs.Following.{goesOn}

@@ -1,28 +1,12 @@
 -- `sooner` is an order: where no two are in one direction, of two exactly one is met first (`one-first`), and what is met before something that is met
--- before a third is met before the third (`first-stays`). Nothing is met before itself (`met-itself`).
-use mathlib.Core.Path.{_≡_, refl, ap, _∙_}
+-- before a third is met before the third (`first-stays`).
+use mathlib.Core.Path.{_≡_, refl}
 use mathlib.Core.Bool.{Bool, true, false, not, _&&_}
-use mathlib.Core.List.{[], _∷_}
-use lib.IntN.{pos}
-use Rattle.laws.proofs.Ring.{ring, v, num, _⊠_, _⊟_}
-use Rattle.sheet.specs.Turning.{Sign, minus, nought, plus, sign, isSign, Direction, cross, turn, sameWay, soonerBy, sooner}
+use Rattle.sheet.specs.Turning.{Sign, nought, isSign, Direction, turn, sameWay, soonerBy, sooner}
 use Rattle.corner.proofs.AllSigns.{all, all3, all-signs, all-signs3, implies, then, agree, agreed}
 use Rattle.corner.proofs.Signs.{flip, times, balanced}
 use Rattle.corner.proofs.Sides.{side}
 use Rattle.corner.proofs.Directions.{turn-back, around, same-way}
-
-turn-none : (b : Direction) → turn b b ≡ nought
-unfolding turn cross sign
-turn-none b = ap sign (ring (b .right ∷ b .up ∷ []) (v 0 ⊠ v 1 ⊟ v 1 ⊠ v 0) (num (pos 0)) refl)
-
-by-itself : (s : Sign) → soonerBy s s nought ≡ false
-by-itself minus = refl
-by-itself nought = refl
-by-itself plus = refl
-
-pub met-itself : (d b : Direction) → sooner d b b ≡ false
-unfolding sooner
-met-itself d b = ap (soonerBy (turn d b) (turn d b)) (turn-none b) ∙ by-itself (turn d b)
 
 both : {a b : Bool} → a ≡ true → b ≡ true → (a && b) ≡ true
 both e f = rw (e, f)

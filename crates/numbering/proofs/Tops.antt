@@ -1,11 +1,9 @@
 -- Which tops are apart: as the sweep on slices asks for it, by points with films, as the drawing has it, and as the checks marked it.
 use mathlib.Core.Path.{_≡_, refl, sym, ap, _∙_}
-use mathlib.Core.Bool.{Bool, true, false, not, cond, _&&_}
+use mathlib.Core.Bool.{Bool, true, false, cond}
 use mathlib.Core.List.{List}
 use Prim.Native.Nat.{ℕ, _<_}
 use lib.Dec.{ltb}
-use lib.IntN.{ℤ}
-use lib.ListN.{getD}
 use borrow.Author.Tests.{lt-ltb}
 use Rattle.laws.specs.Counting.{bit}
 use Rattle.laws.proofs.Deciding.{neither-true}

@@ -58,7 +58,14 @@ fn number_checked(
 {
     let n = edges.len() / Edge::NUMBERS;
     let used = Edge::JOURNAL_NUMBERS * n;
-    let answer = sweep_both(edges, apart, polygons, sequences, &mut journal[..used], rows);
+    let answer = sweep_both(
+        edges,
+        apart,
+        polygons,
+        sequences,
+        &mut journal[..used],
+        rows,
+    );
     journal::zero_from(journal, 2 * n);
     answer
 }

@@ -7,7 +7,7 @@ use mathlib.Core.Bool.{Bool, true, false}
 use mathlib.Core.Logic.{_⊎_, ⊎-elim, inl, inr}
 use Prim.Native.Nat.{ℕ, _≤_, _<_}
 use native.Mathlib.Omega.{arith}
-use lib.IntN.{ℤ, pos, _-ℤ_, _*ℤ_, *ℤ-comm, +ℤ-invr}
+use lib.IntN.{ℤ, _-ℤ_, _*ℤ_, *ℤ-comm, +ℤ-invr}
 use Rattle.laws.proofs.Deciding.{lt-or-le, eq-or-ne, not-both, both-true}
 use Rattle.sheet.specs.Turning.{Sign, minus, nought, plus, sign, Direction, cross, turn, soonerBy, sooner}
 use Rattle.sheet.specs.Edges.{Drawing}

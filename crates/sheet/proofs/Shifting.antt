@@ -10,6 +10,7 @@ use mir.Syntax.{w32, w64}
 use mir.Val.{Fits, SFits, toZ, ofZ}
 use mir.ValLaws.{toZ-ofZ}
 use borrow.Author.Tests.{le-ltb, ltb-true, ltb-false}
+use Rattle.laws.proofs.Bits.{wide, read-widened}
 use Rattle.sheet.specs.Rank.{shift}
 use Rattle.sheet.proofs.Signed.{read-back}
 
@@ -32,21 +33,15 @@ shift-small (pos n) h = omega arith
 shift-small (negsuc n) h = omega arith
 
 module _ (z : ℤ) (f : SFits w32 z) where
-  wide : SFits w64 z
-  wide = record { sfits = omega (arith, f .sfits) }
-
-  in64 : toZ w64 (ofZ w64 (toZ w32 (ofZ w32 z))) ≡ z
-  in64 = ap (λ (y : ℤ). toZ w64 (ofZ w64 y)) (read-back z (f .sfits)) ∙ toZ-ofZ w64 z wide
-
   pub low : ltZ (toZ w32 (ofZ w32 z)) (negsuc 999999) ≡ true → 0 ≡ shift z
   low h = low-of z (rw (read-back z (f .sfits)) at h)
 
   pub widens : SFits w64 (toZ w32 (ofZ w32 z))
-  widens = rw (read-back z (f .sfits)) wide
+  widens = rw (read-back z (f .sfits)) (wide z f)
 
   module _ (h : ltZ (toZ w32 (ofZ w32 z)) (negsuc 999999) ≡ false) where
     sum-is : toZ w64 (ofZ w64 (toZ w32 (ofZ w32 z))) +ℤ pos 1000000 ≡ pos (shift z)
-    sum-is = ap (λ (y : ℤ). y +ℤ pos 1000000) in64 ∙ moved z (rw (read-back z (f .sfits)) at h)
+    sum-is = ap (λ (y : ℤ). y +ℤ pos 1000000) (read-widened z f) ∙ moved z (rw (read-back z (f .sfits)) at h)
 
     small : shift z < 4294967296
     small = shift-small z (f .sfits)

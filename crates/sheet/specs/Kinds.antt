@@ -1,6 +1,5 @@
 -- The four kinds of an edge at a place, and what a sound list is.
-use Prim.Native.Nat.{ℕ, _<_}
-use mathlib.Core.Path.{_≡_}
+use Prim.Native.Nat.{ℕ}
 use mathlib.Core.Bool.{Bool, true, false, cond}
 use lib.Dec.{eqb, ltb}
 use Rattle.laws.specs.Counting.{count}

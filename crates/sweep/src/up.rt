@@ -8,7 +8,7 @@ use steps::End;
 ghost use mathlib.Core.Path.{_≡_};
 ghost use Prim.Native.Nat.{_+_, _*_, _≤_, _<_};
 ghost use lib.ListN.{length};
-ghost use Rattle.steps.specs.SweepUp.{sweepUp, start, levels};
+ghost use Rattle.steps.specs.SweepUp.{sweepUp, start};
 ghost use Rattle.sweep.specs.Slices.{lentRoom, edgeOf, listEdges, TopsMarked, swept};
 ghost use Rattle.sheet.specs.Amounts.{numbersPerEdge};
 ghost use Rattle.steps.specs.Swept.{numbersPerRecord};

@@ -19,9 +19,10 @@ returns-2 : tie.Need-returns-2
 returns-2 c =
     let f = c .before .before .before in
     let l = f .before in
-    let given = sym (f .check2 .ensures) ∙ c .before .refusal2 .given .1 in
-    (record { seen = λ h. absurd (not-both h (edges-before _ _ given)); unseen = λ h. l .before .before .before .before .pre },
-      then-refused _ given ∙ then-passed _ (sym (l .before .before .check .ensures) ∙ l .enum-told .given .1) ∙ by-stages _)
+    let given = sym (f .check2 .ensures) ∙ c .before .refusal2 .given .1 in (
+      record { seen = λ h. absurd (not-both h (edges-before _ _ given)); unseen = λ h. l .before .before .before .before .pre },
+      then-refused _ given ∙ then-passed _ (sym (l .before .before .check .ensures) ∙ l .enum-told .given .1) ∙ by-stages _,
+    )
 
 check-requires-3 : tie.Need-check-requires-3
 check-requires-3 c κs =
