@@ -1,8 +1,9 @@
 -- What every later step goes by: a call that passes the eleven checks has its lists of the right lengths, every end and film in the range, and a checked
 -- sheet. Each field of `Checked` is one of 5 to 9, 16 or 17 that was not given; a place is told by its height and its film.
 use mathlib.Core.Path.{_≡_, sym, ap, _∙_}
-use mathlib.Core.Bool.{true, false}
+use mathlib.Core.Bool.{true, false, _&&_}
 use mathlib.Core.List.{List}
+use mathlib.Core.Logic.{_↔_}
 use Prim.Native.Nat.{ℕ, suc, _*_, _/_, _%_, _≤_, _<_}
 use native.Mathlib.Numerals.{add-one}
 use native.Mathlib.Omega.{arith}
@@ -16,19 +17,20 @@ use Rattle.sheet.specs.declared.Check.the-variants.{Passed}
 use Rattle.sheet.specs.Points.{inRange, isFilm, topOf}
 use Rattle.sheet.specs.Rank.{rank}
 use Rattle.sheet.specs.Edges.{edgeAt, edgesIn, drawingOf, topHeight}
+use Rattle.sheet.specs.Joining.{Follows}
 use Rattle.sheet.specs.Sound.{SweepOrder, Sound}
-use Rattle.sheet.specs.Turning.{sooner}
+use Rattle.sheet.specs.Turning.{plus, isSign, turn, sooner}
 use Rattle.sheet.specs.Kinds.{Way, arriving, leaving, From, below, otherFrom, sameFrom, endOf, comes}
-use Rattle.sheet.specs.Corners.{four, ofKind, cornerAt, alternate, apart}
+use Rattle.sheet.specs.Corners.{four, ofKind, cornerAt, alternate, lowerApart, apart}
 use Rattle.sheet.specs.Answers.{Call, notWhole, tooMany, listsDiffer, journalShort, topFalls, edgeFault, tangled, notAlternating, checked}
 use Rattle.sheet.proofs.Ranks.{rank-below, rank-same}
 use Rattle.sheet.proofs.Places.{place-is, height-of, film-of}
 use Rattle.sheet.proofs.Tops.{end-heights}
 use Rattle.sheet.proofs.AtAPlace.{of-kind, kind-there, two-each}
-use Rattle.sheet.proofs.Following.{goesOn}
+use Rattle.sheet.proofs.Following.{goesOn, OnSide, by-side, by-turning}
 use Rattle.sheet.proofs.Checked.{Checked}
 use Rattle.corner.proofs.Sides.{sideOf, Sided}
-use Rattle.corner.proofs.Corners.{rule-is}
+use Rattle.corner.proofs.Corners.{apart-is, rule-is}
 use Rattle.checks.specs.Faults.{EndsFit}
 use Rattle.checks.proofs.EdgeFaults.{top-in-range, none-of, tail-in, head-in, film-in, ends-differ}
 use Rattle.checks.proofs.Answering.{ends-fit}
@@ -144,3 +146,18 @@ all-passed c (no-row p a) =
 
 pub passed : (c : Call) → checked c ≡ Passed → AllPassed c
 passed c q = all-passed c (exactly c Passed .0 q)
+
+-- 02 M-104 for every call that passes: the joining rule is the theory's, an edge goes on on its own side if it can and at a place that is apart on the other one ..
+pub rule-by-sides : (c : Call) → checked c ≡ Passed → (e f : ℕ) → Follows (drawingOf (c .list)) e f ↔ OnSide (drawingOf (c .list)) e f
+rule-by-sides c q e f = let K = passed c q .sheet in (by-side (K .sound) (K .turning) e f, by-turning (K .sound) (K .turning) e f)
+
+-- .. and a place with four edges is apart where one turns anticlockwise from the way that its lower arriving edge came to its lower leaving one
+pub apart-by-turn : (c : Call) → checked c ≡ Passed → (p : ℕ) → four (drawingOf (c .list)) p ≡ true → apart (drawingOf (c .list)) p ≡ isSign (turn (cornerAt (drawingOf (c .list)) p arriving below) (cornerAt (drawingOf (c .list)) p leaving below)) plus
+unfolding apart
+apart-by-turn c q p whole = by (exactly c Passed .0 q)
+  where
+    by : Row c Passed → (four (drawingOf (c .list)) p && lowerApart (cornerAt (drawingOf (c .list)) p)) ≡ isSign (turn (cornerAt (drawingOf (c .list)) p arriving below) (cornerAt (drawingOf (c .list)) p leaving below)) plus
+    by (no-row r none) =
+        let E = ends-fit (c .list) (few c (r .lengths)) (r .edges) in
+        let S = sound-list (c .list) (r .once) (r .level) in
+        rw whole (apart-is (cornerAt (drawingOf (c .list)) p) (sided E S none p whole) (alternates E S none p whole))
