@@ -17,7 +17,7 @@ ghost use Rattle.sheet.specs.Edges.{edgesIn};
 ghost use Rattle.checks.specs.Faults.{EndsFit};
 ghost use Rattle.checks.specs.Stages.{placesChecked};
 ghost use Rattle.checks.specs.Ends.{edgeIn, arrivesIn, Ordered};
-ghost use Rattle.checks.specs.Places.{firstAtFault, Least, repeatsIn, anyEnd, unevenAt, Walks, Visited, AtPlace, FoundSoFar};
+ghost use Rattle.checks.specs.Places.{firstAtFault, Least, repeatsIn, unevenAt, Walks, AtPlace, FoundSoFar};
 ghost use Rattle.checks.specs.Corners.{noMarks, MarksAfter};
 
 // Each end of a list, two for an edge.
@@ -28,22 +28,6 @@ const MOST_ENDS: usize = 2 * MOST_EDGES;
 pub struct AtFault {
     pub repeated: usize,
     pub uneven: usize,
-}
-
-// Where the ends stop that have the place of the end at from.
-pub fn place_end(words: &[u64], from: usize, m: usize) -> usize
-    requires { ⌜ Walks (now words) m × Visited (now words) m from × (from < m) ⌝ }
-    ensures { λ r. ⌜ AtPlace (now (words .entry)) m from r ⌝ }
-{
-    let place = ends::place_of(words[from]);
-    let mut to = from + 1;
-    while to < m {
-        if ends::place_of(words[to]) != place {
-            return to;
-        }
-        to += 1;
-    }
-    to
 }
 
 // The edge of a word that has the key of the word before, otherwise none.
@@ -84,20 +68,6 @@ fn arriving(words: &[u64], from: usize, to: usize) -> usize
     number
 }
 
-// The least edge with an end at a place.
-pub fn least_edge(words: &[u64], from: usize, to: usize, none: usize) -> usize
-    requires { ⌜ (from ≤ to) × (to ≤ length (now words)) ⌝ }
-    ensures { λ r. ⌜ Least anyEnd (edgeIn (now (words .entry))) none from to r ⌝ }
-{
-    let mut least = none;
-    let mut k = from;
-    while k < to {
-        least = laws::lower_of(least, ends::edge_of(words[k]));
-        k += 1;
-    }
-    least
-}
-
 // The least edge with an end at a place, where the arriving and the leaving edges differ in number.
 fn least_uneven(words: &[u64], m: usize, from: usize, to: usize, none: usize) -> usize
     requires { ⌜ Walks (now words) m × AtPlace (now words) m from to ⌝ }
@@ -106,7 +76,7 @@ fn least_uneven(words: &[u64], m: usize, from: usize, to: usize, none: usize) ->
     if 2 * arriving(words, from, to) == to - from {
         return none;
     }
-    least_edge(words, from, to, none)
+    ends::least_edge(words, from, to, none)
 }
 
 // What is done at a place, whose ends stand from `from` to `to`.
@@ -134,7 +104,7 @@ fn walk(words: &[u64], m: usize, none: usize) -> AtFault
     };
     let mut from: usize = 0;
     while from < m {
-        let to = place_end(words, from, m);
+        let to = ends::place_end(words, from, m);
         found = at_place(words, m, from, to, found, none);
         from = to;
     }

@@ -1,12 +1,12 @@
--- `checks::places::least_edge` meets its contract. The loop's invariant: of the ends before k the least edge is found.
+-- `checks::ends::least_edge` meets its contract. The loop's invariant: of the ends before k the least edge is found.
 use mathlib.Core.Path.{refl}
 use Prim.Native.Nat.{_≤_, _-_}
 use borrow.Author.Needs.{needs}
 use Rattle.checks.specs.Ends.{edgeIn}
 use Rattle.checks.specs.Places.{anyEnd, Least}
 use Rattle.checks.proofs.LeastEdge.{least-start, least-more, least-end}
-use Rattle.checks.proofs.places.least_edge.Statement.{statement}
-use Rattle.checks.proofs.places.least_edge.Tie as tie
+use Rattle.checks.proofs.ends.least_edge.Statement.{statement}
+use Rattle.checks.proofs.ends.least_edge.Tie as tie
 
 abbrev Inv-loop : tie.InvT-loop
 Inv-loop words from to none least₀ k₀ least k = (from ≤ k) × (k ≤ to) × Least anyEnd (edgeIn words) none from k least

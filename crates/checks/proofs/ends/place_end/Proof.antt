@@ -1,11 +1,11 @@
--- `checks::places::place_end` meets its contract. The loop's invariant: the ends passed have the place of the first.
+-- `checks::ends::place_end` meets its contract. The loop's invariant: the ends passed have the place of the first.
 use mathlib.Core.Path.{sym, _∙_}
 use Prim.Native.Nat.{_≤_, _<_, _-_}
 use native.Mathlib.Omega.{arith}
 use borrow.Author.Needs.{needs}
 use Rattle.checks.proofs.Visiting.{Here, here-one, here-more, place-found}
-use Rattle.checks.proofs.places.place_end.Statement.{statement}
-use Rattle.checks.proofs.places.place_end.Tie as tie
+use Rattle.checks.proofs.ends.place_end.Statement.{statement}
+use Rattle.checks.proofs.ends.place_end.Tie as tie
 
 abbrev Inv-loop : tie.InvT-loop
 Inv-loop words from m place to₀ to = (from < to) × (to ≤ m) × Here words from to
