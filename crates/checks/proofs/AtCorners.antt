@@ -12,7 +12,7 @@ use lib.ListN.{getD}
 use mir.Syntax.{w64}
 use mir.Val.{toZ, ofZ}
 use mir.ValLaws.{toZ-ofZ}
-use borrow.Author.Tests.{lt-ltb, le-ltb}
+use borrow.Author.Tests.{lt-ltb, le-ltb, eq-eqb}
 use Rattle.laws.proofs.Deciding.{lt-or-le}
 use Rattle.laws.proofs.Tests.{and-true, and-false}
 use Rattle.sheet.specs.Points.{isBelow}
@@ -20,22 +20,33 @@ use Rattle.sheet.specs.Turning.{Sign, plus, isSign, cross, turn}
 use Rattle.sheet.specs.Edges.{edgeAt, drawingOf}
 use Rattle.sheet.specs.Kinds.{Way, arriving, leaving, otherWay, From, below, above, endOf, comes, numberAt}
 use Rattle.sheet.specs.Corners.{along, four, ofKind, cornerAt, alternate, apart}
+use Rattle.sheet.specs.Sound.{Sound}
 use Rattle.sheet.specs.Answers.{tangled}
 use Rattle.sheet.proofs.Places.{place-below, place-parts}
-use Rattle.sheet.proofs.AtAPlace.{of-kind}
+use Rattle.sheet.proofs.AtAPlace.{of-kind, kind-there, two-each}
 use Rattle.corner.specs.Turns.{alike}
 use Rattle.corner.proofs.Sides.{side, sideOf, Sided}
 use Rattle.corner.proofs.SidesOfPoints.{side-below, side-above}
 use Rattle.corner.proofs.Corners.{alternate-is, apart-is}
 use Rattle.corner.proofs.Sizes.{near, cross-fits}
 use Rattle.checks.specs.Faults.{EndsFit}
-use Rattle.checks.specs.Ends.{wordOf, keyIn, placeIn, edgeIn, IsEnd}
+use Rattle.checks.specs.Ends.{wayNumber, fromNumber, wordOf, keyIn, placeIn, edgeIn, IsEnd}
 use Rattle.checks.specs.Places.{AtPlace}
-use Rattle.checks.specs.Corners.{parts, turnIn, SoundEnds, kindNumber, FourEnds}
+use Rattle.checks.specs.Corners.{parts, turnIn, SoundEnds}
 use Rattle.checks.proofs.EdgeFaults.{tail-in, head-in, film-in}
 use Rattle.checks.proofs.Words.{from-small, way-small, word-key, rises-to, falls-to}
 use Rattle.checks.proofs.ByWords.{number-told, place-told, edge-told, key-way}
 use Rattle.checks.proofs.Visiting.{ends-between}
+
+-- a word has the number of its edge's kind
+abbrev pub kindNumber : Way → From → ℕ
+kindNumber w c = 2 * wayNumber w + fromNumber c
+
+-- the four ends from a on are of one place, an edge of each kind, in the order of the kinds
+pub record FourEnds (s : List ℤ) (words : List ℕ) (n a : ℕ) : Type 0 where
+  pub is-edge : (w : Way) (c : From) → edgeIn words (a + kindNumber w c) < n
+  pub here : (w : Way) (c : From) → endOf (drawingOf s) w (edgeIn words (a + kindNumber w c)) ≡ placeIn words a
+  pub side : (w : Way) (c : From) → comes (drawingOf s) w (edgeIn words (a + kindNumber w c)) ≡ c
 
 -- a kind's number tells the kind
 same-kind : (v w : Way) (c d : From) → kindNumber v c ≡ kindNumber w d → (v ≡ w) × (c ≡ d)
@@ -175,45 +186,54 @@ module _ {s : List ℤ} {n : ℕ} (E : EndsFit s n) (e : ℕ) (l : e < n) where
       by leaving true u = rw (le-ltb (drawingOf s .height (drawingOf s .head e)) (drawingOf s .height (drawingOf s .tail e)) (omega (arith, rises-to E e l u))) (side-above (edgeAt s e .tail) (edgeAt s e .head) u)
       by leaving false u = rw (lt-ltb _ _ (falls-to E e l u)) (side-below (edgeAt s e .tail) (edgeAt s e .head) (back-down u))
 
-module _ {s : List ℤ} {words : List ℕ} {n a : ℕ} (S : SoundEnds s words n) (F : FourEnds s words n a) where
-  edge : Way → From → ℕ
-  edge w c = edgeIn words (a + kindNumber w c)
+-- where four edges of a sound list meet, each of the corner's directions lies on its side
+pub corner-sided : {s : List ℤ} {n : ℕ} → EndsFit s n → Sound (drawingOf s) → (p : ℕ) → four (drawingOf s) p ≡ true → Sided (cornerAt (drawingOf s) p)
+unfolding cornerAt drawingOf
+corner-sided {s} E S p whole = record { sided = side-of }
+  where
+    side-of : (w : Way) (c : From) → side (along (drawingOf s) w (ofKind (drawingOf s) p w c)) ≡ sideOf c
+    side-of w c =
+        let v = kind-there S w p (two-each S p whole w) c in
+        rw (ap (ofKind (drawingOf s) p w) (sym (v .3)) ∙ of-kind S w p (v .0) (v .1) (v .2)) (along-side E (v .0) (omega (arith, v .1, E .all)) w ∙ ap sideOf (v .3))
 
-  is-corner : (w : Way) (c : From) → cornerAt (drawingOf s) (placeIn words a) w c ≡ along (drawingOf s) w (edge w c)
-  unfolding cornerAt edge drawingOf
-  is-corner w c = ap (along (drawingOf s) w) (ap (ofKind (drawingOf s) (placeIn words a) w) (sym (F .side w c)) ∙ of-kind (S .sound) w (placeIn words a) (edge w c) (omega (arith, F .is-edge w c, S .fit .all)) (F .here w c))
+-- the turns between the four ends from a on: from the lower arriving edge to the lower leaving one, and from the upper to the upper
+abbrev pub lowTurn : List ℤ → List ℕ → ℕ → Sign
+lowTurn s words a = turnIn s (edgeIn words (a + 3)) (edgeIn words (a + 1))
+
+abbrev pub highTurn : List ℤ → List ℕ → ℕ → Sign
+highTurn s words a = turnIn s (edgeIn words (a + 2)) (edgeIn words a)
+
+module _ {s : List ℤ} {words : List ℕ} {n a : ℕ} (S : SoundEnds s words n) (P : AtPlace words (2 * n) a (a + 4)) where
+  is-corner : (w : Way) (c : From) → cornerAt (drawingOf s) (placeIn words a) w c ≡ along (drawingOf s) w (edgeIn words (a + kindNumber w c))
+  unfolding cornerAt drawingOf
+  is-corner w c =
+      let F = four-ends S P in
+      ap (along (drawingOf s) w) (ap (ofKind (drawingOf s) (placeIn words a) w) (sym (F .side w c)) ∙ of-kind (S .sound) w (placeIn words a) (edgeIn words (a + kindNumber w c)) (omega (arith, F .is-edge w c, S .fit .all)) (F .here w c))
+
+  whole : four (drawingOf s) (placeIn words a) ≡ true
+  whole = four-is S P ∙ eq-eqb (a + 4 - a) 4 (omega arith)
 
   sided : Sided (cornerAt (drawingOf s) (placeIn words a))
-  unfolding edge
-  sided = record { sided = λ w c. ap side (is-corner w c) ∙ along-side (S .fit) (edge w c) (F .is-edge w c) w ∙ ap sideOf (F .side w c) }
+  sided = corner-sided (S .fit) (S .sound) (placeIn words a) whole
 
-  module _ (whole : four (drawingOf s) (placeIn words a) ≡ true) where
-    lowSign : Sign
-    lowSign = turnIn s (edgeIn words (a + 3)) (edgeIn words (a + 1))
+  turn-below : turn (cornerAt (drawingOf s) (placeIn words a) arriving below) (cornerAt (drawingOf s) (placeIn words a) leaving below) ≡ lowTurn s words a
+  turn-below = rw (is-corner arriving below, is-corner leaving below)
 
-    highSign : Sign
-    highSign = turnIn s (edgeIn words (a + 2)) (edgeIn words a)
+  turn-above : turn (cornerAt (drawingOf s) (placeIn words a) arriving above) (cornerAt (drawingOf s) (placeIn words a) leaving above) ≡ highTurn s words a
+  turn-above = let q : a + 0 ≡ a = omega arith in rw (is-corner arriving above, is-corner leaving above, q)
 
-    turn-below : turn (cornerAt (drawingOf s) (placeIn words a) arriving below) (cornerAt (drawingOf s) (placeIn words a) leaving below) ≡ lowSign
-    unfolding edge lowSign
-    turn-below = rw (is-corner arriving below, is-corner leaving below)
+  alternates : alternate (cornerAt (drawingOf s) (placeIn words a)) ≡ alike (lowTurn s words a) (highTurn s words a)
+  alternates = alternate-is (cornerAt (drawingOf s) (placeIn words a)) sided ∙ rw (turn-below, turn-above)
 
-    turn-above : turn (cornerAt (drawingOf s) (placeIn words a) arriving above) (cornerAt (drawingOf s) (placeIn words a) leaving above) ≡ highSign
-    unfolding edge highSign
-    turn-above = let q : a + 0 ≡ a = omega arith in rw (is-corner arriving above, is-corner leaving above, q)
+  -- 17 is given for the place where the two turns are not alike ..
+  pub tangled-is : tangled (drawingOf s) (placeIn words a) ≡ not (alike (lowTurn s words a) (highTurn s words a))
+  unfolding tangled
+  tangled-is = rw (whole, alternates)
 
-    alternates : alternate (cornerAt (drawingOf s) (placeIn words a)) ≡ alike lowSign highSign
-    alternates = alternate-is (cornerAt (drawingOf s) (placeIn words a)) sided ∙ rw (turn-below, turn-above)
-
-    -- 17 is given for the place where the two turns are not alike ..
-    pub tangled-is : tangled (drawingOf s) (placeIn words a) ≡ not (alike (turnIn s (edgeIn words (a + 3)) (edgeIn words (a + 1))) (turnIn s (edgeIn words (a + 2)) (edgeIn words a)))
-    unfolding tangled lowSign highSign
-    tangled-is = rw (whole, alternates)
-
-    -- .. and where they are, it is apart where the lower one is plus
-    pub parts-is : alike (turnIn s (edgeIn words (a + 3)) (edgeIn words (a + 1))) (turnIn s (edgeIn words (a + 2)) (edgeIn words a)) ≡ true → parts (drawingOf s) (placeIn words a) ≡ isSign (turnIn s (edgeIn words (a + 3)) (edgeIn words (a + 1))) plus
-    unfolding parts apart lowSign highSign
-    parts-is h = rw (tangled-is, whole, h, apart-is (cornerAt (drawingOf s) (placeIn words a)) sided (alternates ∙ h), turn-below) (and-true (isSign lowSign plus))
+  -- .. and where they are, it is apart where the lower one is plus
+  pub parts-is : alike (lowTurn s words a) (highTurn s words a) ≡ true → parts (drawingOf s) (placeIn words a) ≡ isSign (lowTurn s words a) plus
+  unfolding parts apart
+  parts-is h = rw (tangled-is, whole, h, apart-is (cornerAt (drawingOf s) (placeIn words a)) sided (alternates ∙ h), turn-below) (and-true (isSign (lowTurn s words a) plus))
 
 -- a place that 17 is given for is not marked
 pub tangled-parts : (s : List ℤ) (p : ℕ) → tangled (drawingOf s) p ≡ true → parts (drawingOf s) p ≡ false

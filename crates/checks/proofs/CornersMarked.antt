@@ -9,24 +9,23 @@ use lib.Dec.{ltb}
 use lib.IntN.{ℤ}
 use lib.ListN.{getD, set, length, replicate, length-set, length-replicate}
 use lib.Seq.{getD-set-same, getD-set-other}
-use borrow.Author.Tests.{lt-ltb, le-ltb, ltb-true, eq-eqb}
+use borrow.Author.Tests.{lt-ltb, le-ltb, ltb-true}
 use Rattle.laws.specs.Counting.{bit, first}
 use Rattle.laws.proofs.Deciding.{lt-or-le, eq-or-ne}
 use Rattle.sheet.specs.Amounts.{mostEdges}
 use Rattle.sheet.specs.Points.{isBelow}
-use Rattle.sheet.specs.Turning.{Sign, plus, isSign}
+use Rattle.sheet.specs.Turning.{plus, isSign}
 use Rattle.sheet.specs.Edges.{Drawing, edgeAt, edgesIn, drawingOf}
 use Rattle.sheet.specs.Kinds.{Way, arriving, leaving, below, above, endOf, comes}
-use Rattle.sheet.specs.Corners.{four}
 use Rattle.sheet.specs.Answers.{tangled, notAlternating}
 use Rattle.corner.specs.Turns.{alike}
 use Rattle.checks.specs.Ends.{placeIn, edgeIn}
 use Rattle.checks.specs.Places.{anyEnd, AtPlace, Least}
-use Rattle.checks.specs.Corners.{topPlace, parts, Marked, noMarks, turnIn, SoundEnds, kindNumber, FourEnds, tangledIn, CornersSoFar}
+use Rattle.checks.specs.Corners.{topPlace, parts, Marked, noMarks, SoundEnds, tangledIn, CornersSoFar}
 use Rattle.checks.proofs.LeastEdge.{least-none, least-start, least-join, least-same}
 use Rattle.checks.proofs.Words.{rises-to, falls-to}
 use Rattle.checks.proofs.ByWords.{place-told, tangle-first}
-use Rattle.checks.proofs.AtCorners.{four-is, four-ends, tangled-is, parts-is, tangled-parts}
+use Rattle.checks.proofs.AtCorners.{kindNumber, FourEnds, four-ends, lowTurn, highTurn, tangled-is, parts-is, tangled-parts}
 
 no-mark : (m e : ℕ) → _≡_ {A = ℕ} (getD (replicate m 0) e 0) 0
 no-mark zero e = refl
@@ -152,40 +151,21 @@ module _ {s : List ℤ} {words : List ℕ} {n : ℕ} (S : SoundEnds s words n) w
 
   -- four ends at a place: what the turns below and above say
   module _ {a : ℕ} (P : AtPlace words (2 * n) a (a + 4)) where
-    lowSign : Sign
-    lowSign = turnIn s (edgeIn words (a + 3)) (edgeIn words (a + 1))
-
-    highSign : Sign
-    highSign = turnIn s (edgeIn words (a + 2)) (edgeIn words a)
-
-    whole : four (drawingOf s) (placeIn words a) ≡ true
-    whole = four-is S P ∙ eq-eqb (a + 4 - a) 4 (omega arith)
-
-    told : tangled (drawingOf s) (placeIn words a) ≡ not (alike lowSign highSign)
-    unfolding lowSign highSign
-    told = tangled-is S (four-ends S P) whole
-
-    pub tangled-step : {found x : ℕ} {marks : List ℕ} → alike (turnIn s (edgeIn words (a + 3)) (edgeIn words (a + 1))) (turnIn s (edgeIn words (a + 2)) (edgeIn words a)) ≡ false
-        → Least anyEnd (edgeIn words) n a (a + 4) x → CornersSoFar s words n a found marks → CornersSoFar s words n (a + 4) (min found x) marks
-    unfolding lowSign highSign
+    pub tangled-step : {found x : ℕ} {marks : List ℕ} → alike (lowTurn s words a) (highTurn s words a) ≡ false → Least anyEnd (edgeIn words) n a (a + 4) x → CornersSoFar s words n a found marks → CornersSoFar s words n (a + 4) (min found x) marks
     tangled-step h least C =
-        let t = told ∙ ap not h in
+        let t = tangled-is S P ∙ ap not h in
         unmarked-more P (tangled-parts s (placeIn words a) t) (least-same _ (tangled-here P true t) least) C
 
-    module _ (alternate : alike (turnIn s (edgeIn words (a + 3)) (edgeIn words (a + 1))) (turnIn s (edgeIn words (a + 2)) (edgeIn words a)) ≡ true) where
+    module _ (alternate : alike (lowTurn s words a) (highTurn s words a) ≡ true) where
       untangled : tangled (drawingOf s) (placeIn words a) ≡ false
-      unfolding lowSign highSign
-      untangled = told ∙ ap not alternate
+      untangled = tangled-is S P ∙ ap not alternate
 
-      parted : parts (drawingOf s) (placeIn words a) ≡ isSign (turnIn s (edgeIn words (a + 3)) (edgeIn words (a + 1))) plus
-      parted = parts-is S (four-ends S P) whole alternate
+      pub joined-step : {found : ℕ} {marks : List ℕ} → isSign (lowTurn s words a) plus ≡ false → CornersSoFar s words n a found marks → CornersSoFar s words n (a + 4) found marks
+      joined-step h C = nothing-more P untangled (parts-is S P alternate ∙ h) C
 
-      pub joined-step : {found : ℕ} {marks : List ℕ} → isSign (turnIn s (edgeIn words (a + 3)) (edgeIn words (a + 1))) plus ≡ false → CornersSoFar s words n a found marks → CornersSoFar s words n (a + 4) found marks
-      joined-step h C = nothing-more P untangled (parted ∙ h) C
-
-      pub apart-step : {found : ℕ} {marks : List ℕ} → isSign (turnIn s (edgeIn words (a + 3)) (edgeIn words (a + 1))) plus ≡ true → CornersSoFar s words n a found marks
+      pub apart-step : {found : ℕ} {marks : List ℕ} → isSign (lowTurn s words a) plus ≡ true → CornersSoFar s words n a found marks
           → CornersSoFar s words n (a + 4) found (set (set marks (edgeIn words (a + 3)) 1) (edgeIn words (a + 1)) 1)
-      apart-step h C = marked-more P (four-ends S P) untangled (parted ∙ h) C
+      apart-step h C = marked-more P (four-ends S P) untangled (parts-is S P alternate ∙ h) C
 
   -- after the last place
   pub all-marked : {found : ℕ} {marks : List ℕ} → CornersSoFar s words n (2 * n) found marks → Marked s marks

@@ -20,21 +20,21 @@ use Rattle.sheet.specs.Edges.{edgeAt, edgesIn, drawingOf, topHeight}
 use Rattle.sheet.specs.Joining.{Follows}
 use Rattle.sheet.specs.Sound.{SweepOrder, Sound}
 use Rattle.sheet.specs.Turning.{plus, isSign, turn, sooner}
-use Rattle.sheet.specs.Kinds.{Way, arriving, leaving, From, below, otherFrom, sameFrom, endOf, comes}
-use Rattle.sheet.specs.Corners.{four, ofKind, cornerAt, alternate, lowerApart, apart}
+use Rattle.sheet.specs.Kinds.{arriving, leaving, From, below, otherFrom, sameFrom}
+use Rattle.sheet.specs.Corners.{four, cornerAt, alternate, lowerApart, apart}
 use Rattle.sheet.specs.Answers.{Call, notWhole, tooMany, listsDiffer, journalShort, topFalls, edgeFault, tangled, notAlternating, checked}
 use Rattle.sheet.proofs.Ranks.{rank-below, rank-same}
 use Rattle.sheet.proofs.Places.{place-is, height-of, film-of}
 use Rattle.sheet.proofs.Tops.{end-heights}
-use Rattle.sheet.proofs.AtAPlace.{of-kind, kind-there, two-each}
+use Rattle.sheet.proofs.AtAPlace.{kind-there, two-each}
 use Rattle.sheet.proofs.Following.{goesOn, OnSide, by-side, by-turning}
 use Rattle.sheet.proofs.Checked.{Checked}
-use Rattle.corner.proofs.Sides.{sideOf, Sided}
+use Rattle.corner.proofs.Sides.{Sided}
 use Rattle.corner.proofs.Corners.{apart-is, rule-is}
 use Rattle.checks.specs.Faults.{EndsFit}
 use Rattle.checks.proofs.EdgeFaults.{top-in-range, none-of, tail-in, head-in, film-in, ends-differ}
 use Rattle.checks.proofs.Answering.{ends-fit}
-use Rattle.checks.proofs.AtCorners.{along-side}
+use Rattle.checks.proofs.AtCorners.{corner-sided}
 use Rattle.checks.proofs.AnswerSheet.{LengthsFit, PlacesSound, Row, no-row, exactly}
 use Rattle.checks.proofs.SoundList.{sound-list}
 use Rattle.sheet.specs.Amounts.{numbersPerEdge, films, journalNumbersPerEdge, mostEdges}
@@ -80,18 +80,13 @@ module _ {s : List ℤ} (E : EndsFit s (edgesIn s)) (none : NoneBelow (edgeFault
 
 -- 17 is not given: at a place with four edges the first one met turning clockwise is told by its side
 module _ {s : List ℤ} (E : EndsFit s (edgesIn s)) (S : Sound (drawingOf s)) (none : NoneBelow (notAlternating (drawingOf s)) (edgesIn s)) (p : ℕ) (whole : four (drawingOf s) p ≡ true) where
-  kind : (w : Way) (c : From) → (e : ℕ) × (e < edgesIn s) × (endOf (drawingOf s) w e ≡ p) × (comes (drawingOf s) w e ≡ c)
-  unfolding drawingOf
-  kind w c = kind-there S w p (two-each S p whole w) c
-
   sided : Sided (cornerAt (drawingOf s) p)
-  unfolding cornerAt drawingOf
-  sided = record { sided = λ w c. let v = kind w c in rw (ap (ofKind (drawingOf s) p w) (sym (v .3)) ∙ of-kind S w p (v .0) (v .1) (v .2)) (along-side E (v .0) (v .1) w ∙ ap sideOf (v .3)) }
+  sided = corner-sided E S p whole
 
   alternates : alternate (cornerAt (drawingOf s) p) ≡ true
-  unfolding notAlternating tangled
+  unfolding notAlternating tangled drawingOf
   alternates =
-      let v = kind arriving below in
+      let v = kind-there S arriving p (two-each S p whole arriving) below in
       let t : tangled (drawingOf s) p ≡ false = ap (tangled (drawingOf s)) (sym (v .2)) ∙ neither-true (tangled (drawingOf s) (drawingOf s .tail (v .0))) _ (none (v .0) (v .1)) .1 in
       not-false _ (rw whole at t)
 

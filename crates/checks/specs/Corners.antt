@@ -1,9 +1,9 @@
--- Corners as the walk over places in order finds them, in a list that passes 8 and 9: the four ends of a place by kind, the least edge with an end at a place
--- that 17 is given for, and a mark for each edge whose top is apart.
+-- Corners as the walk over places in order finds them, in a list that passes 8 and 9: the least edge with an end at a place that 17 is given for, and a mark
+-- for each edge whose top is apart.
 use mathlib.Core.Path.{_≡_}
 use mathlib.Core.Bool.{Bool, true, false, not, cond, _&&_}
 use mathlib.Core.List.{List}
-use Prim.Native.Nat.{ℕ, _+_, _*_, _<_}
+use Prim.Native.Nat.{ℕ, _*_, _<_}
 use lib.Dec.{eqb, ltb}
 use lib.IntN.{ℤ}
 use lib.ListN.{length, getD, replicate}
@@ -13,12 +13,11 @@ use Rattle.sheet.specs.declared.Check.the-variants.{Passed, Refused}
 use Rattle.sheet.specs.Amounts.{mostEdges}
 use Rattle.sheet.specs.Turning.{Sign, turn}
 use Rattle.sheet.specs.Edges.{Drawing, edgesIn, drawingOf}
-use Rattle.sheet.specs.Kinds.{Way, From, endOf, comes}
 use Rattle.sheet.specs.Corners.{apart}
 use Rattle.sheet.specs.Sound.{Sound}
 use Rattle.sheet.specs.Answers.{numberOf, tangled}
 use Rattle.checks.specs.Faults.{EndsFit}
-use Rattle.checks.specs.Ends.{wayNumber, fromNumber, placeIn, edgeIn, Ordered}
+use Rattle.checks.specs.Ends.{placeIn, edgeIn, Ordered}
 use Rattle.checks.specs.Places.{Walks, Least}
 
 -- the place of an edge's top
@@ -57,15 +56,6 @@ pub record SoundEnds (s : List ℤ) (words : List ℕ) (n : ℕ) : Type 0 where
   pub ordered : Ordered s words n
   pub walks : Walks words (2 * n)
   pub sound : Sound (drawingOf s)
-
-abbrev pub kindNumber : Way → From → ℕ
-kindNumber w c = 2 * wayNumber w + fromNumber c
-
--- the four ends from a on are of one place, an edge of each kind, in the order of the kinds
-pub record FourEnds (s : List ℤ) (words : List ℕ) (n a : ℕ) : Type 0 where
-  pub is-edge : (w : Way) (c : From) → edgeIn words (a + kindNumber w c) < n
-  pub here : (w : Way) (c : From) → endOf (drawingOf s) w (edgeIn words (a + kindNumber w c)) ≡ placeIn words a
-  pub side : (w : Way) (c : From) → comes (drawingOf s) w (edgeIn words (a + kindNumber w c)) ≡ c
 
 unfoldable pub tangledIn : List ℤ → List ℕ → ℕ → Bool
 tangledIn s words k = tangled (drawingOf s) (placeIn words k)

@@ -1,8 +1,9 @@
 //! Joining by a hash map, as one would write it without Hartley's method: the
 //! same checks in the same order, each edge's follower looked up by point and
-//! film, and where four edges meet by their directions, every round walked once, outlines sorted by their tops. It gives
-//! the same polygon and sequence numbers, the same turn list and the same
-//! refusals but for 10; it writes no journal and needs no rows.
+//! film, and where four edges meet by their directions, every round walked once,
+//! outlines sorted by their tops. It gives the same polygon and sequence numbers,
+//! the same turn list and the same refusals but for 10; it writes no journal and
+//! needs no rows.
 
 use std::collections::HashMap;
 
