@@ -23,7 +23,7 @@ use Rattle.sheet.specs.Corners.{along, four, ofKind, cornerAt, alternate, apart
 use Rattle.sheet.specs.Sound.{Sound}
 use Rattle.sheet.specs.Answers.{tangled}
 use Rattle.sheet.proofs.Places.{place-below, place-parts}
-use Rattle.sheet.proofs.AtAPlace.{of-kind, kind-there, two-each}
+use Rattle.sheet.proofs.AtAPlace.{same-true, of-kind, kind-there, two-each}
 use Rattle.corner.specs.Turns.{alike}
 use Rattle.corner.proofs.Sides.{side, sideOf, Sided}
 use Rattle.corner.proofs.SidesOfPoints.{side-below, side-above}
@@ -35,7 +35,7 @@ use Rattle.checks.specs.Places.{AtPlace}
 use Rattle.checks.specs.Corners.{parts, turnIn, SoundEnds}
 use Rattle.checks.proofs.EdgeFaults.{tail-in, head-in, film-in}
 use Rattle.checks.proofs.Words.{from-small, way-small, word-key, rises-to, falls-to}
-use Rattle.checks.proofs.ByWords.{number-told, place-told, edge-told, key-way}
+use Rattle.checks.proofs.ByWords.{one-way, one-from, number-told, place-told, edge-told, key-way}
 use Rattle.checks.proofs.Visiting.{ends-between}
 
 -- a word has the number of its edge's kind
@@ -50,22 +50,9 @@ pub record FourEnds (s : List ℤ) (words : List ℕ) (n a : ℕ) : Type 0 where
 
 -- a kind's number tells the kind
 same-kind : (v w : Way) (c d : From) → kindNumber v c ≡ kindNumber w d → (v ≡ w) × (c ≡ d)
-same-kind arriving arriving below below q = (refl, refl)
-same-kind arriving arriving below above q = absurd (omega arith)
-same-kind arriving arriving above below q = absurd (omega arith)
-same-kind arriving arriving above above q = (refl, refl)
-same-kind arriving leaving below below q = absurd (omega arith)
-same-kind arriving leaving below above q = absurd (omega arith)
-same-kind arriving leaving above below q = absurd (omega arith)
-same-kind arriving leaving above above q = absurd (omega arith)
-same-kind leaving arriving below below q = absurd (omega arith)
-same-kind leaving arriving below above q = absurd (omega arith)
-same-kind leaving arriving above below q = absurd (omega arith)
-same-kind leaving arriving above above q = absurd (omega arith)
-same-kind leaving leaving below below q = (refl, refl)
-same-kind leaving leaving below above q = absurd (omega arith)
-same-kind leaving leaving above below q = absurd (omega arith)
-same-kind leaving leaving above above q = (refl, refl)
+same-kind v w c d q =
+    let way : wayNumber v ≡ wayNumber w = omega (arith, q, from-small c, from-small d) in
+    (one-way v w way, same-true c d (one-from c d (omega (arith, q, way))))
 
 kind-small : (w : Way) (c : From) → kindNumber w c ≤ 3
 kind-small w c = omega (arith, way-small w, from-small c)
@@ -173,7 +160,7 @@ module _ {s : List ℤ} {n : ℕ} (E : EndsFit s n) {e f : ℕ} (l : e < n) (m :
 
 -- an edge's direction from a place lies on the side that it comes from
 module _ {s : List ℤ} {n : ℕ} (E : EndsFit s n) (e : ℕ) (l : e < n) where
-  pub along-side : (w : Way) → side (along (drawingOf s) w e) ≡ sideOf (comes (drawingOf s) w e)
+  along-side : (w : Way) → side (along (drawingOf s) w e) ≡ sideOf (comes (drawingOf s) w e)
   unfolding comes drawingOf
   along-side w = by w (isBelow (edgeAt s e .tail) (edgeAt s e .head)) refl
     where

@@ -43,13 +43,13 @@ goes-way arriving words k t = eqb-true _ _ t
 goes-way leaving words k t = let h = eqb-false (getD words k 0 / 8192 % 2) 1 (not-true _ t) in omega arith
 
 -- numbers tell the ways apart, and the sides
-one-way : (v w : Way) → wayNumber v ≡ wayNumber w → v ≡ w
+pub one-way : (v w : Way) → wayNumber v ≡ wayNumber w → v ≡ w
 one-way arriving arriving h = refl
 one-way arriving leaving h = absurd (omega arith)
 one-way leaving arriving h = absurd (omega arith)
 one-way leaving leaving h = refl
 
-one-from : (x y : From) → fromNumber x ≡ fromNumber y → sameFrom x y ≡ true
+pub one-from : (x y : From) → fromNumber x ≡ fromNumber y → sameFrom x y ≡ true
 one-from below below h = refl
 one-from below above h = absurd (omega arith)
 one-from above below h = absurd (omega arith)
@@ -80,7 +80,7 @@ module _ {s : List ℤ} {words : List ℕ} {n : ℕ} (E : EndsFit s n) (O : Orde
   pub walks : 2 * n ≤ length words → Walks words (2 * n)
   walks room = record { room = room; few = omega (arith, E .few); rising = rises }
 
-  pub one-spot : (i j : ℕ) → i < 2 * n → j < 2 * n → getD words i 0 ≡ getD words j 0 → i ≡ j
+  one-spot : (i j : ℕ) → i < 2 * n → j < 2 * n → getD words i 0 ≡ getD words j 0 → i ≡ j
   one-spot i j il jl q = ⊎-elim (λ h. absurd (omega (arith, O .rising i j h jl))) (λ h. ⊎-elim (λ g. absurd (omega (arith, O .rising j i g il))) (λ g. omega arith) (lt-or-le j i)) (lt-or-le i j)
 
   -- 9: as many ends go a way at a place as edges do

@@ -78,7 +78,7 @@ module _ {s : List ℤ} {words : List ℕ} {n : ℕ} (S : SoundEnds s words n) w
     here-or-before k l = ⊎-elim inl (λ h. inr (P .here k h l)) (lt-or-le k a)
 
     -- nothing is marked at the place
-    pub unmarked-more : {found x : ℕ} {marks : List ℕ} → parts (drawingOf s) (placeIn words a) ≡ false → Least (tangledIn s words) (edgeIn words) n a b x → CornersSoFar s words n a found marks → CornersSoFar s words n b (min found x) marks
+    unmarked-more : {found x : ℕ} {marks : List ℕ} → parts (drawingOf s) (placeIn words a) ≡ false → Least (tangledIn s words) (edgeIn words) n a b x → CornersSoFar s words n a found marks → CornersSoFar s words n b (min found x) marks
     unmarked-more none least C = record {
       tangles = least-join (omega arith) (omega (arith, P .some)) (C .tangles) least;
       size = C .size;
@@ -87,7 +87,7 @@ module _ {s : List ℤ} {words : List ℕ} {n : ℕ} (S : SoundEnds s words n) w
     }
 
     -- all of its ends are at a place that 17 is given for, or none
-    pub tangled-here : (t : Bool) → tangled (drawingOf s) (placeIn words a) ≡ t → (k : ℕ) → a ≤ k → k < b → tangledIn s words k ≡ t
+    tangled-here : (t : Bool) → tangled (drawingOf s) (placeIn words a) ≡ t → (k : ℕ) → a ≤ k → k < b → tangledIn s words k ≡ t
     unfolding tangledIn
     tangled-here t h k l m = ap (tangled (drawingOf s)) (P .here k l m) ∙ h
 
@@ -118,7 +118,7 @@ module _ {s : List ℤ} {words : List ℕ} {n : ℕ} (S : SoundEnds s words n) w
         by leaving h = inr h
 
     -- they are marked
-    pub marked-more : {found : ℕ} {marks : List ℕ} → tangled (drawingOf s) (placeIn words a) ≡ false → parts (drawingOf s) (placeIn words a) ≡ true → CornersSoFar s words n a found marks
+    marked-more : {found : ℕ} {marks : List ℕ} → tangled (drawingOf s) (placeIn words a) ≡ false → parts (drawingOf s) (placeIn words a) ≡ true → CornersSoFar s words n a found marks
         → CornersSoFar s words n (a + 4) found (set (set marks (edgeIn words (a + 3)) 1) (edgeIn words (a + 1)) 1)
     unfolding lowerEdge
     marked-more {found} {marks} t split C = record {

@@ -41,7 +41,7 @@ abbrev pub cornersSeen : Check → Bool
 cornersSeen Passed = true
 cornersSeen (Refused r) = eqb (numberOf r) 17
 
--- what a check that was lent no marks has made of them
+-- what a check leaves in the marks, which it was lent as zeros
 pub record MarksAfter (s : List ℤ) (answer : Check) (marks : List ℕ) : Type 0 where
   pub seen : cornersSeen answer ≡ true → Marked s marks
   pub unseen : cornersSeen answer ≡ false → marks ≡ noMarks

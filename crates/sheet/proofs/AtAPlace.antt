@@ -94,7 +94,7 @@ module _ {sh : Drawing} (S : Sound sh) (w : Way) (p : ℕ) where
       one-kind (comes sh w e) (first (isKind (comes sh w e)) (sh .edges)) e m l (first-holds (isKind (comes sh w e)) (sh .edges) m) t
 
   -- no more than one from each side
-  pub at-most-two : numberAt sh w p ≤ 2
+  at-most-two : numberAt sh w p ≤ 2
   unfolding numberAt isKind
   at-most-two = omega (arith, count-parts (λ e. eqb (endOf sh w e) p) (isKind below) (isKind above) (sh .edges) (λ e l. parts (eqb (endOf sh w e) p) (comes sh w e)), once below, once above)
     where
