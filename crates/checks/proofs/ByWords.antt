@@ -11,7 +11,7 @@ use lib.IntN.{ℤ}
 use lib.ListN.{length, getD}
 use borrow.Author.Tests.{lt-ltb, ltb-true, eq-eqb, ne-eqb, eqb-true, eqb-false}
 use Rattle.laws.specs.Counting.{count, first}
-use Rattle.laws.proofs.Deciding.{lt-or-le, not-both, both-true, one-true}
+use Rattle.laws.proofs.Deciding.{lt-or-le, not-both, both-true, true-both, one-true}
 use Rattle.laws.proofs.Tests.{not-true, or-true}
 use Rattle.laws.proofs.First.{some-below-true, below-some}
 use Rattle.laws.proofs.Pigeonhole.{pigeon}
@@ -30,9 +30,6 @@ use Rattle.checks.proofs.Words.{from-small, way-small, word-edge, word-
 abbrev goesIn : Way → List ℕ → ℕ → Bool
 goesIn arriving words k = arrivesIn words k
 goesIn leaving words k = not (arrivesIn words k)
-
-both : {a b : Bool} → a ≡ true → b ≡ true → (a && b) ≡ true
-both p q = rw (p, q)
 
 goes-told : (w : Way) (words : List ℕ) (k : ℕ) → getD words k 0 / 8192 % 2 ≡ wayNumber w → goesIn w words k ≡ true
 goes-told arriving words k h = eq-eqb _ _ h
@@ -99,7 +96,7 @@ module _ {s : List ℤ} {words : List ℕ} {n : ℕ} (E : EndsFit s n) (O : Orde
             let v = O .stands w e l in
             let place : placeIn words (v .0) ≡ p = ap (λ (x : ℕ). x / 16384) (v .2) ∙ word-place s w e (small l) ∙ eqb-true _ _ t in
             let way : getD words (v .0) 0 / 8192 % 2 ≡ wayNumber w = ap (λ (x : ℕ). x / 8192 % 2) (v .2) ∙ word-way s w e (small l) in
-            (v .0, v .1, both (eq-eqb _ _ place) (goes-told w words (v .0) way), (l, v .2))
+            (v .0, v .1, true-both (eq-eqb _ _ place) (goes-told w words (v .0) way), (l, v .2))
 
     no-fewer : count at-end (2 * n) ≤ count (λ e. eqb (endOf (drawingOf s) w e) p) n
     no-fewer = pigeon (λ k e. (k < 2 * n) × (getD words k 0 ≡ wordOf s w e)) own _ _ (2 * n) n hole
@@ -160,7 +157,7 @@ module _ {s : List ℤ} {words : List ℕ} {n : ℕ} (E : EndsFit s n) (O : Orde
     unfolding sameKind
     key-kind q =
         let k = sym (word-key s w f (small fl)) ∙ q ∙ word-key s w e (small el) in
-        both (eq-eqb (endOf (drawingOf s) w e) (endOf (drawingOf s) w f) (omega (arith, k, from-small (comes (drawingOf s) w f), from-small (comes (drawingOf s) w e)))) (one-from (comes (drawingOf s) w e) (comes (drawingOf s) w f) (omega (arith, k, from-small (comes (drawingOf s) w f), from-small (comes (drawingOf s) w e))))
+        true-both (eq-eqb (endOf (drawingOf s) w e) (endOf (drawingOf s) w f) (omega (arith, k, from-small (comes (drawingOf s) w f), from-small (comes (drawingOf s) w e)))) (one-from (comes (drawingOf s) w e) (comes (drawingOf s) w f) (omega (arith, k, from-small (comes (drawingOf s) w f), from-small (comes (drawingOf s) w e))))
 
     kind-key : sameKind (drawingOf s) w e f ≡ true → wordOf s w f / 4096 ≡ wordOf s w e / 4096
     unfolding sameKind
@@ -196,7 +193,7 @@ module _ {s : List ℤ} {words : List ℕ} {n : ℕ} (E : EndsFit s n) (O : Orde
           let less : getD words (j .0) 0 < getD words (i .0) 0 = omega (arith, keys, fe, edge-told w e (i .0) l (i .2), edge-told w f (j .0) fl (j .2)) in
           let ji : j .0 < i .0 = ⊎-elim (λ g. g) (λ g. absurd (omega (arith, less, rises (i .0) (j .0) g (j .1)))) (lt-or-le (j .0) (i .0)) in
           let same : keyIn words (i .0 - 1) ≡ keyIn words (i .0) = omega (arith, keys, rises (j .0) (i .0 - 1) (omega arith) (omega (arith, i .1)), rises (i .0 - 1) (i .0) (omega arith) (i .1)) in
-          (i .0, i .1, both (lt-ltb 0 (i .0) (omega arith)) (eq-eqb (keyIn words (i .0 - 1)) (keyIn words (i .0)) same), edge-told w e (i .0) l (i .2))
+          (i .0, i .1, true-both (lt-ltb 0 (i .0) (omega arith)) (eq-eqb (keyIn words (i .0 - 1)) (keyIn words (i .0)) same), edge-told w e (i .0) l (i .2))
 
   pub found-first : {f : AtFault} → FoundSoFar words (2 * n) n (2 * n) f → f ≡ firstAtFault s
   unfolding firstAtFault uneven atEnd

@@ -2,14 +2,12 @@
 -- before a third is met before the third (`first-stays`).
 use mathlib.Core.Path.{_≡_, refl}
 use mathlib.Core.Bool.{Bool, true, false, not, _&&_}
+use Rattle.laws.proofs.Deciding.{true-both}
 use Rattle.sheet.specs.Turning.{Sign, nought, isSign, Direction, turn, sameWay, soonerBy, sooner}
 use Rattle.corner.proofs.AllSigns.{all, all3, all-signs, all-signs3, implies, then, agree, agreed}
 use Rattle.corner.proofs.Signs.{flip, times, balanced}
 use Rattle.corner.proofs.Sides.{side}
 use Rattle.corner.proofs.Directions.{turn-back, around, same-way}
-
-both : {a b : Bool} → a ≡ true → b ≡ true → (a && b) ≡ true
-both e f = rw (e, f)
 
 -- ---- of two exactly one is met first: by the sides of d, b and c, and the turns between them
 -- no two are in one direction
@@ -46,7 +44,7 @@ module _ (d b c : Direction) (hd : isSign (side d) nought ≡ false) (hb : isSig
   one-first h k m =
       let r : real (side d) (side b) (side c) ≡ true = rw (hd, hb, hc) in
       let t : agree (soonerBy (turn d c) (turn d b) (flip (turn b c))) (not (soonerBy (turn d b) (turn d c) (turn b c))) ≡ true =
-      then _ (then _ (all-pass (side d) (side b) (side c) (turn d b) (turn d c) (turn b c)) (both r (weighed-sides d b c))) (no-two d b c h k m) in
+      then _ (then _ (all-pass (side d) (side b) (side c) (turn d b) (turn d c) (turn b c)) (true-both r (weighed-sides d b c))) (no-two d b c h k m) in
       rw (turn-back b c) (agreed _ _ t)
 
 -- ---- what is met before something that is met before a third, is met before the third
@@ -79,4 +77,4 @@ module _ (d b c e : Direction) (hd : isSign (side d) nought ≡ false) (hb : isS
   first-stays db dc de bc be ce h k =
       let t = then _ (then _ tried (weighed-sides d b c)) (weighed-sides d c e) in
       let u = then _ (then _ t (weighed-sides d b e)) (weighed-sides b c e) in
-      then _ (then _ u (both (no-two d b c db dc bc) (both (no-two d c e dc de ce) (no-two d b e db de be)))) (both h k)
+      then _ (then _ u (true-both (no-two d b c db dc bc) (true-both (no-two d c e dc de ce) (no-two d b e db de be)))) (true-both h k)

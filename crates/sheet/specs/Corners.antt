@@ -12,6 +12,7 @@ abbrev pub along : Drawing → Way → ℕ → Direction
 along sh arriving e = sh .back e
 along sh leaving e = sh .ahead e
 
+-- four edges meet at the place
 unfoldable pub four : Drawing → ℕ → Bool
 four sh p = eqb (numberAt sh arriving p + numberAt sh leaving p) 4
 
