@@ -4,4 +4,5 @@ pub mod Tips
 pub mod Searching
 pub mod Looking
 pub mod Writing
-pub mod Marking
+pub mod Owners
+pub mod Indexing

@@ -24,6 +24,10 @@ module _ (s : List ℤ) (r : ℕ) where
   unfolding lookBranch
   length-is side = rw branch-is
 
+  pub finished-is : (side : Side) → on side (lookRow s r .branch) .finished ≡ not (nonNeg (getD s (branchAt side r + 2) (pos 0)))
+  unfolding lookBranch
+  finished-is side = rw branch-is
+
   pub tip-is : (side : Side) →
       on side (lookRow s r .branch) .tip ≡ onFilm (filmIn s r) (record { x = getD s (branchAt side r) (pos 0); y = getD s (branchAt side r + 1) (pos 0) })
   unfolding lookBranch

@@ -11,7 +11,7 @@ use mir.ValLaws.{toZ-ofZ}
 use borrow.Author.Tests.{lt-ltb, le-ltb, ltb-false}
 use Rattle.laws.proofs.Deciding.{not-both}
 use Rattle.laws.proofs.Bits.{read-back}
-use Rattle.rows.specs.Layout.{freedNumber}
+use Rattle.rows.specs.Layout.{levelIn, freedNumber}
 
 -- a number of 31 bits is itself as a signed one
 pub plain-read : (n : ℕ) → n < 2147483648 → toZ w32 n ≡ pos n
@@ -107,3 +107,25 @@ module _ (z : ℤ) (f : mag z < 2147483648) where
 
   pub free-stays : ltZ (pos 0) (toZ w32 (ofZ w32 z)) ≡ false → toZ w32 (ofZ w32 z) ≡ freedNumber z
   free-stays h = read-back z f ∙ free-freed z (rw (read-back z f) at h)
+
+-- the level that the first number of a row in use tells
+less-one : (z : ℤ) → ltZ (pos 0) z ≡ true → z -ℤ pos 1 ≡ pos (levelIn z)
+unfolding levelIn
+less-one (pos zero) h = absurd (not-both h refl)
+less-one (pos (suc n)) h = simp (le-ltb (suc n) 1 (omega arith))
+less-one (negsuc n) h = absurd (not-both h refl)
+
+pub level-small : (z : ℤ) → mag z < 2147483648 → levelIn z < 2147483648
+unfolding levelIn
+level-small (pos n) f = omega arith
+level-small (negsuc n) f = f
+
+module _ (z : ℤ) (f : mag z < 2147483648) (h : ltZ (pos 0) z ≡ true) where
+  less-one-is : toZ w32 (ofZ w32 z) -ℤ pos 1 ≡ pos (levelIn z)
+  less-one-is = rw (read-back z f) (less-one z h)
+
+  pub level-fits : SFits w32 (toZ w32 (ofZ w32 z) -ℤ pos 1)
+  level-fits = rw less-one-is (record { sfits = level-small z f })
+
+  pub level-read : toZ w32 (ofZ w32 (toZ w32 (ofZ w32 z) -ℤ pos 1)) ≡ pos (levelIn z)
+  level-read = toZ-ofZ w32 _ level-fits ∙ less-one-is

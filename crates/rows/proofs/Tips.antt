@@ -57,27 +57,44 @@ module _ (s : List ℤ) (r level : ℕ) (side : Side) (tip : Place) (has : HasRo
     test-at : hasTipIn s level side tip r ≡ byNumbers b
     test-at = tip-test side ∙ ap byNumbers (sym at)
 
-    pub other-tip : isSame (record { x = getD s b (pos 0); y = getD s (b + 1) (pos 0) }) (tip .point) ≡ false → false ≡ hasTipIn s level side tip r
+    -- the first number decides of the level
+    level-by : level < 2147483647 → mag (getD s (numbersPerRow * r) (pos 0)) < 2147483648 → {t : Bool} →
+        eqb (ofZ w32 (getD s (numbersPerRow * r) (pos 0))) (ofZ w32 (toZ w32 level +ℤ pos 1)) ≡ t → sameZ (getD s (numbersPerRow * r) (pos 0)) (pos (level + 1)) ≡ t
+    level-by hl f₀ e = sym (bits-sameZ (getD s (numbersPerRow * r) (pos 0)) (pos (level + 1)) f₀ (omega arith)) ∙ (rw (mark-is level hl) at e)
+
+    sign-by : mag (getD s (b + 2) (pos 0)) < 2147483648 → (t : Bool) → ltZ (toZ w32 (ofZ w32 (getD s (b + 2) (pos 0)))) (pos 0) ≡ t → nonNeg (getD s (b + 2) (pos 0)) ≡ not t
+    sign-by f t h = sym (not-not _) ∙ ap not (tested (getD s (b + 2) (pos 0)) f h)
+
+    same-by : (j : ℕ) (z : ℤ) → mag (getD s j (pos 0)) < 2147483648 → mag z < 2147483648 → {t : Bool} → eqb (ofZ w32 (getD s j (pos 0))) (ofZ w32 z) ≡ t → sameZ (getD s j (pos 0)) z ≡ t
+    same-by j z f g e = sym (bits-sameZ (getD s j (pos 0)) z f g) ∙ e
+
+    pub other-level : level < 2147483647 → mag (getD s (numbersPerRow * r) (pos 0)) < 2147483648 →
+        eqb (ofZ w32 (getD s (numbersPerRow * r) (pos 0))) (ofZ w32 (toZ w32 level +ℤ pos 1)) ≡ false → false ≡ hasTipIn s level side tip r
     unfolding byNumbers
-    other-tip e = rw (test-at, e) (sym (simp and-false))
+    other-level hl f₀ e = rw (test-at, level-by hl f₀ e)
 
-    module _ (f : mag (getD s (b + 2) (pos 0)) < 2147483648) where
-      sign : (t : Bool) → ltZ (toZ w32 (ofZ w32 (getD s (b + 2) (pos 0)))) (pos 0) ≡ t → nonNeg (getD s (b + 2) (pos 0)) ≡ not t
-      sign t h = sym (not-not _) ∙ ap not (tested (getD s (b + 2) (pos 0)) f h)
+    pub finished-there : mag (getD s (b + 2) (pos 0)) < 2147483648 → ltZ (toZ w32 (ofZ w32 (getD s (b + 2) (pos 0)))) (pos 0) ≡ true → false ≡ hasTipIn s level side tip r
+    unfolding byNumbers
+    finished-there f h = rw (test-at, sign-by f true h) (sym (simp and-false))
 
-      pub finished-there : ltZ (toZ w32 (ofZ w32 (getD s (b + 2) (pos 0)))) (pos 0) ≡ true → false ≡ hasTipIn s level side tip r
-      unfolding byNumbers
-      finished-there h = rw (test-at, sign true h) (sym (simp and-false))
+    pub other-height : mag (getD s (b + 1) (pos 0)) < 2147483648 → mag (tip .point .y) < 2147483648 → eqb (ofZ w32 (getD s (b + 1) (pos 0))) (ofZ w32 (tip .point .y)) ≡ false →
+        false ≡ hasTipIn s level side tip r
+    unfolding byNumbers isSame
+    other-height f g e = rw (test-at, same-by (b + 1) (tip .point .y) f g e) (sym (simp and-false))
 
-      pub other-film : mag (filmIn s r) < 2147483648 → mag (tip .film) < 2147483648 → eqb (ofZ w32 (filmIn s r)) (ofZ w32 (tip .film)) ≡ false →
-          false ≡ hasTipIn s level side tip r
-      unfolding byNumbers
-      other-film fr ft e = rw (test-at, sym (bits-sameZ (filmIn s r) (tip .film) fr ft) ∙ e) (sym (simp and-false))
+    pub other-x : mag (getD s b (pos 0)) < 2147483648 → mag (tip .point .x) < 2147483648 → eqb (ofZ w32 (getD s b (pos 0))) (ofZ w32 (tip .point .x)) ≡ false →
+        false ≡ hasTipIn s level side tip r
+    unfolding byNumbers isSame
+    other-x f g e = rw (test-at, same-by b (tip .point .x) f g e) (sym (simp and-false))
 
-      pub level-decides : level < 2147483647 → mag (getD s (numbersPerRow * r) (pos 0)) < 2147483648 →
-          mag (filmIn s r) < 2147483648 → mag (tip .film) < 2147483648 → eqb (ofZ w32 (filmIn s r)) (ofZ w32 (tip .film)) ≡ true →
-          isSame (record { x = getD s b (pos 0); y = getD s (b + 1) (pos 0) }) (tip .point) ≡ true → ltZ (toZ w32 (ofZ w32 (getD s (b + 2) (pos 0)))) (pos 0) ≡ false →
-          eqb (ofZ w32 (getD s (numbersPerRow * r) (pos 0))) (ofZ w32 (toZ w32 level +ℤ pos 1)) ≡ hasTipIn s level side tip r
-      unfolding byNumbers
-      level-decides hl f0 fr ft ef e h =
-          rw (test-at, sign false h, sym (bits-sameZ (filmIn s r) (tip .film) fr ft) ∙ ef, e, and-true, mark-is level hl) (bits-sameZ (getD s (numbersPerRow * r) (pos 0)) (pos (level + 1)) f0 (omega arith))
+    -- where all else agrees, the film decides
+    pub film-decides : level < 2147483647 → mag (getD s (numbersPerRow * r) (pos 0)) < 2147483648 →
+        eqb (ofZ w32 (getD s (numbersPerRow * r) (pos 0))) (ofZ w32 (toZ w32 level +ℤ pos 1)) ≡ true →
+        mag (getD s (b + 2) (pos 0)) < 2147483648 → ltZ (toZ w32 (ofZ w32 (getD s (b + 2) (pos 0)))) (pos 0) ≡ false →
+        mag (getD s (b + 1) (pos 0)) < 2147483648 → mag (tip .point .y) < 2147483648 → eqb (ofZ w32 (getD s (b + 1) (pos 0))) (ofZ w32 (tip .point .y)) ≡ true →
+        mag (getD s b (pos 0)) < 2147483648 → mag (tip .point .x) < 2147483648 → eqb (ofZ w32 (getD s b (pos 0))) (ofZ w32 (tip .point .x)) ≡ true →
+        mag (getD s (numbersPerRow * r + 7) (pos 0)) < 2147483648 → mag (tip .film) < 2147483648 →
+        eqb (ofZ w32 (getD s (numbersPerRow * r + 7) (pos 0))) (ofZ w32 (tip .film)) ≡ hasTipIn s level side tip r
+    unfolding byNumbers isSame filmIn
+    film-decides hl f₀ e₀ f₂ e₂ f₁ g₁ e₁ fx gx ex ff gf =
+        rw (test-at, level-by hl f₀ e₀, sign-by f₂ false e₂, same-by (b + 1) (tip .point .y) f₁ g₁ e₁, same-by b (tip .point .x) fx gx ex, and-true) (bits-sameZ (getD s (numbersPerRow * r + 7) (pos 0)) (tip .film) ff gf)

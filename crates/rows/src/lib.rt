@@ -1,7 +1,7 @@
 // Rows in the lent slice. Only this crate knows how a row lies in its eight numbers: specs/Layout.antt says it, and the functions here are proved
 // equal to what the steps do with a table of rows laid out so. Searches stop at the peak, above which no row was ever open; where a search for a tip
 // starts, its mark says.
-pub mod marks;
+pub mod index;
 
 use sheet::Point;
 use steps::Found;
@@ -10,13 +10,12 @@ ghost use mathlib.Core.Path.{_≡_};
 ghost use Prim.Native.Nat.{_+_, _<_};
 ghost use lib.IntN.{pos, negsuc};
 ghost use lib.ListN.{length, replicate};
-ghost use lib.Signed.{mag};
-ghost use Rattle.sheet.specs.Points.{isSame};
+ghost use mathlib.Core.Bool.{true};
+ghost use lib.Signed.{ltZ, mag};
 ghost use Rattle.steps.specs.Rows.{on, lowestFree};
-ghost use Rattle.steps.specs.SweepUp.{foundBelow, bothFinished};
-ghost use Rattle.rows.specs.Layout.{HasRow, branchAt, freedNumber, lookRow, hasTipIn, openedIn, movedIn, finishedIn, freedIn};
+ghost use Rattle.steps.specs.SweepUp.{bothFinished};
+ghost use Rattle.rows.specs.Layout.{HasRow, branchAt, levelIn, freedNumber, lookRow, hasTipIn, openedIn, movedIn, finishedIn, freedIn};
 ghost use Rattle.steps.specs.Swept.{rowsIn};
-ghost use Rattle.rows.specs.Marks.{Marked};
 
 // How many numbers a row has.
 pub const NUMBERS: usize = 8;
@@ -48,48 +47,27 @@ fn branch_at(rows: &[i32], r: usize, side: Side) -> usize
     }
 }
 
-// Whether coordinates are those of a point. Both are compared without a branch between: in a search nearly every tip is another one.
-fn is_at(x: i32, y: i32, point: Point) -> bool
-    ensures { λ t. ⌜ t ≡ isSame (record { x = x; y = y }) point ⌝ }
-{
-    let point_x = point.x;
-    let point_y = point.y;
-    (y == point_y) & (x == point_x)
-}
-
-// Whether a row is in use and of the level, and its branch on the side is unfinished with its tip at the place. The point is looked at first: level, film
-// and finished mark change from row to row, the point is nearly always another one, so that the way past a row can be foreseen.
+// Whether a row is in use and of the level, and its branch on the side is unfinished with its tip at the place. Level and finished mark come first, then the height:
+// x and film are looked at only where that agrees.
 fn has_tip(rows: &[i32], r: usize, level: u32, side: Side, tip: Place) -> bool
     requires { ⌜ HasRow (now rows) r × (level < 2147483647) ⌝ }
     ensures { λ t. ⌜ t ≡ hasTipIn (now (rows .entry)) level side tip r ⌝ }
 {
-    let b = branch_at(rows, r, side);
-    if !is_at(rows[b], rows[b + 1], tip.point) {
+    if rows[NUMBERS * r] != level as i32 + 1 {
         return false;
     }
+    let b = branch_at(rows, r, side);
     if rows[b + 2] < 0 {
         return false;
     }
-    if rows[NUMBERS * r + FILM] != tip.film {
+    let point = tip.point;
+    if rows[b + 1] != point.y {
         return false;
     }
-    rows[NUMBERS * r] == level as i32 + 1
-}
-
-// The first row below the peak with such a tip. Its mark says where to start.
-pub fn find(rows: &[i32], marks: &[u8], peak: usize, level: u32, side: Side, tip: Place) -> Found
-    requires { ⌜ (level < 2147483647) × Marked (now marks) (now rows) peak ⌝ }
-    ensures { λ f. ⌜ f ≡ foundBelow (hasTipIn (now (rows .entry)) level side tip) peak ⌝ }
-{
-    let n = laws::lower_of(peak, rows.len() / NUMBERS);
-    let mut r = marks::start(marks, level, side, tip);
-    while r < n {
-        if has_tip(rows, r, level, side, tip) {
-            return Found::At(r);
-        }
-        r += 1;
+    if rows[b] != point.x {
+        return false;
     }
-    Found::Nothing
+    rows[NUMBERS * r + FILM] == tip.film
 }
 
 // The lowest free row below the peak, or the peak where all are in use; the number of rows where the peak is past it.
@@ -171,6 +149,14 @@ pub fn free_row(rows: &mut [i32], r: usize)
     let b = NUMBERS * r;
     let z = freed_number(rows[b]);
     rows[b] = z;
+}
+
+// The level that the first number of a row in use tells.
+fn level_in(z: i32) -> u32
+    requires { ⌜ ltZ (pos 0) z ≡ true ⌝ }
+    ensures { λ n. ⌜ n ≡ levelIn z ⌝ }
+{
+    (z - 1) as u32
 }
 
 // The length that a branch's number tells, whether it is finished or not.
