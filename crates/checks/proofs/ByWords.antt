@@ -77,7 +77,7 @@ module _ {s : List ℤ} {words : List ℕ} {n : ℕ} (E : EndsFit s n) (O : Orde
   pub walks : 2 * n ≤ length words → Walks words (2 * n)
   walks room = record { room = room; few = omega (arith, E .few); rising = rises }
 
-  one-spot : (i j : ℕ) → i < 2 * n → j < 2 * n → getD words i 0 ≡ getD words j 0 → i ≡ j
+  pub one-spot : (i j : ℕ) → i < 2 * n → j < 2 * n → getD words i 0 ≡ getD words j 0 → i ≡ j
   one-spot i j il jl q = ⊎-elim (λ h. absurd (omega (arith, O .rising i j h jl))) (λ h. ⊎-elim (λ g. absurd (omega (arith, O .rising j i g il))) (λ g. omega arith) (lt-or-le j i)) (lt-or-le i j)
 
   -- 9: as many ends go a way at a place as edges do

@@ -27,7 +27,7 @@ use Rattle.checks.proofs.Words.{rises-to, falls-to}
 use Rattle.checks.proofs.ByWords.{place-told, tangle-first}
 use Rattle.checks.proofs.AtCorners.{kindNumber, FourEnds, four-ends, lowTurn, highTurn, tangled-is, parts-is, tangled-parts}
 
-no-mark : (m e : ℕ) → _≡_ {A = ℕ} (getD (replicate m 0) e 0) 0
+pub no-mark : (m e : ℕ) → _≡_ {A = ℕ} (getD (replicate m 0) e 0) 0
 no-mark zero e = refl
 no-mark (suc m) zero = refl
 no-mark (suc m) (suc e) = no-mark m e

@@ -6,7 +6,9 @@ pub mod Visiting
 pub mod ByWords
 pub mod AtCorners
 pub mod CornersMarked
+pub mod PlaceNumbers
 pub mod Answering
 pub mod AnswerSheet
 pub mod SoundList
 pub mod Passed
+pub mod NumbersRead

@@ -4,3 +4,4 @@ pub mod Faults
 pub mod Ends
 pub mod Places
 pub mod Corners
+pub mod Numbers

@@ -4,6 +4,7 @@ mod corners;
 mod ends;
 pub mod faults;
 pub mod lengths;
+mod numbers;
 pub mod places;
 
 use sheet::Check;
@@ -11,11 +12,13 @@ use sheet::Edge;
 ghost use mathlib.Core.Path.{_≡_};
 ghost use Rattle.sheet.specs.Answers.{checked};
 ghost use Rattle.checks.specs.Corners.{noMarks, MarksAfter};
+ghost use Rattle.checks.specs.Numbers.{noNumbers, NumbersAfter};
 
 // The most edges that a list holds.
 const MOST_EDGES: usize = Edge::MOST;
 
-// What the eleven checks answer. Only the lengths of the other lists matter here. Nothing is written but the marks of edges whose tops are apart.
+// What the eleven checks answer. Only the lengths of the other lists matter here. Nothing is written but the marks of edges whose tops are apart
+// and, where all eleven pass, the numbers of the ends' places.
 pub fn check(
     edges: &[i32],
     polygons: usize,
@@ -23,10 +26,12 @@ pub fn check(
     turns: usize,
     journal: usize,
     apart: &mut [u8],
+    numbers: &mut [u16],
 ) -> Check
-    requires { ⌜ now apart ≡ noMarks ⌝ }
+    requires { ⌜ (now apart ≡ noMarks) × (now numbers ≡ noNumbers) ⌝ }
     ensures { λ r. ⌜ MarksAfter (now (edges .entry)) r (now (apart .exit)) ⌝ }
     ensures { λ r. ⌜ r ≡ checked (record { list = now (edges .entry); polygons = polygons; sequences = sequences; turns = turns; journal = journal }) ⌝ }
+    ensures { λ r. ⌜ NumbersAfter (now (edges .entry)) r (now (numbers .exit)) ⌝ }
 {
     if let Check::Refused(refusal) = lengths::check(edges, polygons, sequences, turns, journal) {
         return Check::Refused(refusal);
@@ -34,5 +39,5 @@ pub fn check(
     if let Check::Refused(refusal) = faults::check(edges) {
         return Check::Refused(refusal);
     }
-    places::check(edges, apart)
+    places::check(edges, apart, numbers)
 }

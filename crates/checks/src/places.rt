@@ -4,6 +4,7 @@
 use crate::MOST_EDGES;
 use crate::corners;
 use crate::ends;
+use crate::numbers;
 use sheet::Check;
 use sheet::Edge;
 use sheet::Refusal;
@@ -19,6 +20,7 @@ ghost use Rattle.checks.specs.Stages.{placesChecked};
 ghost use Rattle.checks.specs.Ends.{edgeIn, arrivesIn, Ordered};
 ghost use Rattle.checks.specs.Places.{firstAtFault, Least, repeatsIn, unevenAt, Walks, AtPlace, FoundSoFar};
 ghost use Rattle.checks.specs.Corners.{noMarks, MarksAfter};
+ghost use Rattle.checks.specs.Numbers.{noNumbers, NumbersAfter};
 
 // Each end of a list, two for an edge.
 const MOST_ENDS: usize = 2 * MOST_EDGES;
@@ -121,11 +123,11 @@ fn first_at_fault(edges: &[i32], n: usize, words: &mut [u64]) -> AtFault
     walk(words, 2 * n, n)
 }
 
-// 8 over the whole list, then 9, then 17, of a list that passes 2, 5, 16 and 6. Leaves a mark for each edge whose top is apart. The words take 64 KB of stack,
-// 8,192 of 8 bytes, and while they are sorted the sort's room takes 32 KB more.
-pub fn check(edges: &[i32], apart: &mut [u8]) -> Check
-    requires { ⌜ EndsFit (now edges) (edgesIn (now edges)) × (now apart ≡ noMarks) ⌝ }
-    ensures { λ r. ⌜ (r ≡ placesChecked (now (edges .entry))) × MarksAfter (now (edges .entry)) r (now (apart .exit)) ⌝ }
+// 8 over the whole list, then 9, then 17, of a list that passes 2, 5, 16 and 6. Leaves a mark for each edge whose top is apart and, where all pass, the number
+// of each end's place. The words take 64 KB of stack, 8,192 of 8 bytes, and while they are sorted the sort's room takes 32 KB more.
+pub fn check(edges: &[i32], apart: &mut [u8], numbers: &mut [u16]) -> Check
+    requires { ⌜ EndsFit (now edges) (edgesIn (now edges)) × (now apart ≡ noMarks) × (now numbers ≡ noNumbers) ⌝ }
+    ensures { λ r. ⌜ (r ≡ placesChecked (now (edges .entry))) × MarksAfter (now (edges .entry)) r (now (apart .exit)) × NumbersAfter (now (edges .entry)) r (now (numbers .exit)) ⌝ }
 {
     let n = edges.len() / Edge::NUMBERS;
     let mut words = [0u64; MOST_ENDS];
@@ -140,5 +142,6 @@ pub fn check(edges: &[i32], apart: &mut [u8]) -> Check
     if tangled < n {
         return Check::Refused(Refusal::NotAlternating(tangled as u32));
     }
+    numbers::number_places(&words, n, numbers);
     Check::Passed
 }

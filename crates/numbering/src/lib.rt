@@ -15,6 +15,9 @@ ghost use Rattle.sheet.specs.Amounts.{numbersPerEdge, journalNumbersPerEdge, mo
 // The most edges that a list holds.
 const MOST_EDGES: usize = Edge::MOST;
 
+// Each end of a list, two for an edge: its place has a number.
+const MOST_ENDS: usize = 2 * MOST_EDGES;
+
 // Gives every edge its polygon number and its place round the polygon, or says why not.
 // Takes every list and every size of the lent slices, and the length of the turn list that a caller goes on to fill, which 3 compares too.
 // Accepted: both lists filled, the records in the journal followed by zeros, the rows all zeros.
@@ -29,6 +32,7 @@ pub fn number(
     ensures { λ r. ⌜ Promised (lent (now (edges .entry)) (now (polygons .entry)) (now (sequences .entry)) turns (now (journal .entry)) (now (rows .entry))) (leftAs r (now (polygons .exit)) (now (sequences .exit)) (now (journal .exit)) (now (rows .exit))) ⌝ }
 {
     let mut apart = [0u8; MOST_EDGES];
+    let mut numbers = [0u16; MOST_ENDS];
     let checked = checks::check(
         edges,
         polygons.len(),
@@ -36,6 +40,7 @@ pub fn number(
         turns,
         journal.len(),
         &mut apart,
+        &mut numbers,
     );
     match checked {
         Check::Refused(refusal) => Answer::Refused(refusal),

@@ -17,37 +17,37 @@ number-checked-requires : tie.Need-number-checked-requires
 unfolding edgesIn
 number-checked-requires c κs =
     let c₅ = c .before .before .before .before .before in
-    let c₈ = c₅ .before .before .before in
-    let c₁₂ = c₈ .before .before .before .before in
-    let a = c₁₂ .args in
-    let ok = sym (c₈ .check .ensures .1) ∙ c₅ .enum-told .given .1 in
-    let marks = rw (c₅ .enum-told .given .1) at (c₈ .check .ensures .0) in
+    let c₉ = c₅ .before .before .before .before in
+    let c₁₄ = c₉ .before .before .before .before .before in
+    let a = c₁₄ .args in
+    let ok = sym (c₉ .check .ensures .1 .0) ∙ c₅ .enum-told .given .1 in
+    let marks = rw (c₅ .enum-told .given .1) at (c₉ .check .ensures .0) in
     let p = passed (callOf (lent (now (a .edges)) (now (a .polygons)) (now (a .sequences)) (a .turns) (now (a .journal)) (now (a .rows)))) ok in
     ((marks .seen refl .size, tops-marked p (marks .seen refl)), (p .few, p .journal))
 
 returns : tie.Need-returns
 returns c =
     let c₁ = c .before in
-    let c₄ = c₁ .before .before .before in
-    let c₈ = c₄ .before .before .before .before in
-    let a = c₈ .args in
-    let l = lent (now (a .edges)) (now (a .polygons)) (now (a .sequences)) (a .turns) (now (a .journal)) (now (a .rows)) in promised l _ (when-refused l _ (sym (c₄ .check .ensures .1) ∙ c₁ .checked .given .1))
+    let c₅ = c₁ .before .before .before .before in
+    let c₁₀ = c₅ .before .before .before .before .before in
+    let a = c₁₀ .args in
+    let l = lent (now (a .edges)) (now (a .polygons)) (now (a .sequences)) (a .turns) (now (a .journal)) (now (a .rows)) in promised l _ (when-refused l _ (sym (c₅ .check .ensures .1 .0) ∙ c₁ .checked .given .1))
 
 returns-2 : tie.Need-returns-2
 returns-2 c =
     let c₆ = c .before .before .before .before .before .before in
     let c₁₂ = c₆ .before .before .before .before .before .before in
-    let c₁₅ = c₁₂ .before .before .before in
-    let c₁₉ = c₁₅ .before .before .before .before in
-    let a = c₁₉ .args in
+    let c₁₆ = c₁₂ .before .before .before .before in
+    let c₂₁ = c₁₆ .before .before .before .before .before in
+    let a = c₂₁ .args in
     let l = lent (now (a .edges)) (now (a .polygons)) (now (a .sequences)) (a .turns) (now (a .journal)) (now (a .rows)) in
-    let ok = sym (c₁₅ .check .ensures .1) ∙ c₁₂ .enum-told .given .1 in
+    let ok = sym (c₁₆ .check .ensures .1 .0) ∙ c₁₂ .enum-told .given .1 in
     let p = passed (callOf l) ok in promised l _ (c₆ .number-checked .ensures ∙ ap (λ t. sweepsOn (lent (now (a .edges)) (now (a .polygons)) (now (a .sequences)) t (now (a .journal)) (now (a .rows)))) (p .polygons ∙ sym (p .turns)) ∙ runs l ok)
 
 pub number-spec : {M : Type 1} → statement M
 number-spec =
     tie.close
     (tie.spec
-    (search needs) (λ c κs. search needs) (search needs) (search needs) (search needs) number-checked-requires
+    (search needs) (search needs) (λ c κs. search needs) (search needs) (search needs) (search needs) number-checked-requires
     returns
     (search needs) (search needs) (search needs) (search needs) returns-2)
