@@ -5,3 +5,5 @@ pub mod Searching
 pub mod Looking
 pub mod Writing
 pub mod Marking
+pub mod Noting
+pub mod InUse

@@ -1,6 +1,7 @@
 // Rows in the lent slice. Only this crate knows how a row lies in its eight numbers: specs/Layout.antt says it, and the functions here are proved
 // equal to what the steps do with a table of rows laid out so. Searches stop at the peak, above which no row was ever open; where a search for a tip
 // starts, its mark says.
+pub mod free;
 pub mod marks;
 
 use sheet::Point;
