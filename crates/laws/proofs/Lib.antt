@@ -21,6 +21,7 @@ pub mod Sets
 pub mod Zeros
 pub mod Listing
 pub mod Bits
+pub mod Digits
 pub mod Integers
 pub mod Ring
 pub mod Magnitudes

@@ -1,6 +1,7 @@
 // Rows in the lent slice. Only this crate knows how a row lies in its eight numbers: specs/Layout.antt says it, and the functions here are proved
 // equal to what the steps do with a table of rows laid out so. Searches stop at the peak, above which no row was ever open; where a search for a tip
 // starts, its mark says.
+pub mod free;
 pub mod index;
 
 use sheet::Point;
@@ -12,7 +13,7 @@ ghost use lib.IntN.{pos, negsuc};
 ghost use lib.ListN.{length, replicate};
 ghost use mathlib.Core.Bool.{true};
 ghost use lib.Signed.{ltZ, mag};
-ghost use Rattle.steps.specs.Rows.{on, lowestFree};
+ghost use Rattle.steps.specs.Rows.{on};
 ghost use Rattle.steps.specs.SweepUp.{bothFinished};
 ghost use Rattle.rows.specs.Layout.{HasRow, branchAt, levelIn, freedNumber, lookRow, hasTipIn, openedIn, movedIn, finishedIn, freedIn};
 ghost use Rattle.steps.specs.Swept.{rowsIn};
@@ -68,21 +69,6 @@ fn has_tip(rows: &[i32], r: usize, level: u32, side: Side, tip: Place) -> bool
         return false;
     }
     rows[NUMBERS * r + FILM] == tip.film
-}
-
-// The lowest free row below the peak, or the peak where all are in use; the number of rows where the peak is past it.
-pub fn lowest_free(rows: &[i32], peak: usize) -> usize
-    ensures { λ f. ⌜ f ≡ lowestFree lookRow (now (rows .entry)) peak ⌝ }
-{
-    let n = laws::lower_of(peak, rows.len() / NUMBERS);
-    let mut r: usize = 0;
-    while r < n {
-        if rows[NUMBERS * r] <= 0 {
-            return r;
-        }
-        r += 1;
-    }
-    r
 }
 
 // A row put into use, both tips at the place, both lengths 0, both branches unfinished.
