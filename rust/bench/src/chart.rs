@@ -24,6 +24,10 @@ const LEFT: f64 = 112.0;
 const LONGEST: f64 = 620.0;
 const WIDTH: f64 = 800.0;
 
+/// How a time behind its bar is written: small, and clear of the axis's lines.
+const BEHIND: &str =
+    "font-size=\"11\" stroke=\"#ffffff\" stroke-width=\"3\" paint-order=\"stroke\"";
+
 /// Where the first group begins, and the heights of a bar and of a group.
 const TOP: f64 = 84.0;
 const BAR: f64 = 15.0;
@@ -123,7 +127,7 @@ fn draw_group(text: &mut String, axis: &Axis, top: f64, group: &Group) {
         writeln!(
             text,
             "<rect x=\"{LEFT}\" y=\"{y}\" width=\"{length:.1}\" height=\"{thick}\" fill=\"{colour}\"/>\
-             <text x=\"{end:.1}\" y=\"{base}\" font-size=\"11\">{time:.1}</text>"
+             <text x=\"{end:.1}\" y=\"{base}\" {BEHIND}>{time:.1}</text>"
         )
         .unwrap();
     }

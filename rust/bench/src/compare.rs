@@ -72,14 +72,12 @@ fn joiners(call: &Call, engine: &Outcome) {
     for (name, joiner) in [("hash map", HASH_MAP), ("fast joiner", FAST_JOINER)] {
         let (answer, left) = joined(call, joiner);
         assert_eq!(answer, wanted, "the answer of the {}", name);
-        for (list, which) in [0, 1, 2].map(|list| (list, LISTS[list])) {
-            assert_eq!(&left[list], lists[list], "{} of the {}", which, name);
+        let names = ["polygons", "sequences", "turns"];
+        for (which, (left, wanted)) in names.iter().zip(left.iter().zip(lists)) {
+            assert!(left == wanted, "the {} of the {} differ", which, name);
         }
     }
 }
-
-/// The three lists by name.
-const LISTS: [&str; 3] = ["the polygons", "the sequences", "the turn list"];
 
 /// A joiner's answer to a call, and what the three lists hold then.
 fn joined(call: &Call, joiner: Joiner) -> (Result<u32, Refusal>, [Vec<u32>; 3]) {
@@ -104,12 +102,15 @@ fn turn_lists(random: &mut Random, outcome: Outcome) {
     let answer = held::turns(random, &call);
     assert_eq!(held::turn_refusal(answer), 0);
     let read = call.outcome(witness::turns).turns;
-    assert_eq!(read, outcome.turns, "the turn list of the numbers");
+    assert!(
+        read == outcome.turns,
+        "the turn list of the numbers differs"
+    );
     let (polygons, sequences) = (&call.polygons, &call.sequences);
     let count = polygons.iter().max().map_or(0, |most| *most as usize);
     let mut laid = vec![call.fill; call.turns];
     if laying::lay(polygons, sequences, count, &mut laid) {
-        assert_eq!(laid, outcome.turns, "the turn list laid");
+        assert!(laid == outcome.turns, "the turn list laid differs");
     }
 }
 

@@ -27,7 +27,7 @@ use tables::Line;
 /// How the program is called.
 const USAGE: &str = "\
 bench [--rounds N] [--first] [--picture FILE]
-  --rounds N      rounds in which engine and joiners take turns (7)
+  --rounds N      rounds in which engine and joiners take turns (11)
   --first         the first table only
   --picture FILE  write the first table's largest sheets to a file, as SVG";
 
@@ -42,7 +42,7 @@ impl Wishes {
     /// The wishes of some words, or nothing where they are not understood.
     fn of(mut words: impl Iterator<Item = String>) -> Option<Wishes> {
         let mut wishes = Wishes {
-            rounds: 7,
+            rounds: 11,
             first_only: false,
             picture: None,
         };
@@ -69,7 +69,7 @@ fn main() {
     println!("{}\n", machine());
     let times = tables::assembling(&mut lines, wishes.rounds);
     if let Some(file) = wishes.picture {
-        let title = "Numbers and turns of sheets of 4,096 edges";
+        let title = "Numbers and turns of sheets of about 4,096 edges";
         let picture = chart::draw(title, &tables::groups(&lines, &times));
         fs::write(&file, picture).expect("the picture's file can be written");
     }

@@ -5,18 +5,26 @@
 
 use std::time::{Duration, Instant};
 
-/// For how long each piece of work is repeated.
-const LONG_ENOUGH: Duration = Duration::from_millis(100);
+/// For how long a piece of work is repeated that is timed once.
+const LONG_ENOUGH: Duration = Duration::from_millis(250);
+
+/// For how long each rival's work is repeated in a round.
+const A_ROUND: Duration = Duration::from_millis(50);
 
 /// It is run so often, at least.
 const LEAST_RUNS: usize = 5;
 
 /// The shortest time that the work takes, in nanoseconds.
-pub fn best(mut work: impl FnMut()) -> f64 {
+pub fn best(work: impl FnMut()) -> f64 {
+    shortest(LONG_ENOUGH, work)
+}
+
+/// The shortest time of the runs for which this is long enough.
+fn shortest(long_enough: Duration, mut work: impl FnMut()) -> f64 {
     let begun = Instant::now();
     let mut shortest = f64::INFINITY;
     let mut runs = 0;
-    while runs < LEAST_RUNS || begun.elapsed() < LONG_ENOUGH {
+    while runs < LEAST_RUNS || begun.elapsed() < long_enough {
         let start = Instant::now();
         work();
         shortest = shortest.min(start.elapsed().as_nanos() as f64);
@@ -31,7 +39,7 @@ pub struct Rounds<const RIVALS: usize>(Vec<[f64; RIVALS]>);
 impl<const RIVALS: usize> Rounds<RIVALS> {
     /// Times the rivals on the same things, so many rounds in turn.
     pub fn of<T>(count: usize, things: &mut T, rivals: [fn(&mut T); RIVALS]) -> Self {
-        let mut round = || rivals.map(|rival| best(|| rival(things)));
+        let mut round = || rivals.map(|rival| shortest(A_ROUND, || rival(things)));
         Rounds((0..count).map(|_| round()).collect())
     }
 
