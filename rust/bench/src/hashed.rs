@@ -10,9 +10,10 @@ use std::collections::hash_map::RandomState;
 use std::collections::HashMap;
 use std::hash::{BuildHasher, BuildHasherDefault};
 
-use crate::multiplying::Multiplying;
 use witness::checks::{Lengths, Refusal, JOURNAL_NUMBERS_PER_EDGE};
 use witness::geometry::{read_edges, Edge, Point, Site, MOST_EDGES, NUMBERS_PER_EDGE};
+
+use crate::multiplying::Multiplying;
 
 /// A way of joining: numbers a list and puts its edges in turn; gives how many
 /// outlines there are.

@@ -101,3 +101,22 @@ fn machine() -> String {
     };
     format!("Built for {} {}, {}. {}", ARCH, OS, run, engine)
 }
+
+#[test]
+fn words_of_the_command_line() {
+    let of = |words: &str| Wishes::of(words.split_whitespace().map(String::from));
+    let none = of("").unwrap();
+    assert_eq!(
+        (none.rounds, none.first_only, none.picture),
+        (11, false, None)
+    );
+    let all = of("--picture a.svg --first --rounds 3").unwrap();
+    let picture = Some(PathBuf::from("a.svg"));
+    assert_eq!(
+        (all.rounds, all.first_only, all.picture),
+        (3, true, picture)
+    );
+    for wrong in ["--rounds", "--rounds x", "--rounds 0", "--picture", "first"] {
+        assert!(of(wrong).is_none(), "{}", wrong);
+    }
+}

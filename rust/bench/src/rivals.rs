@@ -10,6 +10,9 @@ use crate::hashed::{Joiner, Lent, FAST_JOINER, HASH_MAP};
 use crate::laying;
 use crate::timing::{best, Rounds};
 
+/// Few rows, but enough for pixel art.
+pub const FEW_ROWS: usize = 1_000;
+
 /// A sheet with all that is lent for it. The slices are used again and again as
 /// the last run left them; whoever needs them clear clears them in its own time.
 pub struct Desk {
@@ -54,24 +57,35 @@ impl Desk {
         self.rows.len() / outline::NUMBERS_PER_ROW
     }
 
-    /// Times the engine, and the clearing of the lent rows alone, in turn.
-    pub fn time_clearing(&mut self, rounds: usize) -> Rounds<2> {
+    /// Times the engine, the clearing of the lent rows alone, and the clearing
+    /// with a call after it that is lent few of them, in turn.
+    pub fn time_clearing(&mut self, rounds: usize) -> Rounds<3> {
         let engine = |desk: &mut Desk| {
             desk.engine();
         };
-        let times = Rounds::of(rounds, self, [engine, |desk| desk.rows.fill(0)]);
+        let clearing = |desk: &mut Desk| desk.rows.fill(0);
+        let both = |desk: &mut Desk| {
+            desk.rows.fill(0);
+            desk.engine_with(FEW_ROWS);
+        };
+        let times = Rounds::of(rounds, self, [engine, clearing, both]);
         assert!(self.rows.iter().all(|number| *number == 0));
         times
     }
 
     fn engine(&mut self) -> outline::Answer {
+        self.engine_with(self.lent_rows())
+    }
+
+    /// The engine, lent so many of the rows.
+    fn engine_with(&mut self, rows: usize) -> outline::Answer {
         outline::assemble(
             &self.list,
             &mut self.polygons,
             &mut self.sequences,
             &mut self.turns,
             &mut self.journal,
-            &mut self.rows,
+            &mut self.rows[..outline::NUMBERS_PER_ROW * rows],
         )
     }
 
@@ -125,11 +139,13 @@ impl Desk {
 /// Several sheets, each with what is lent for it, worked one after the other.
 pub struct Desks(Vec<Desk>);
 
-/// The places of those that are timed in rounds.
+/// The engine's place in the rounds.
 pub const ENGINE: usize = 0;
-/// The joiner with std's hasher.
+
+/// That of the hash map.
 pub const HASHED: usize = 1;
-/// The joiner with a fast one.
+
+/// That of the fast joiner.
 pub const FAST: usize = 2;
 
 impl Desks {

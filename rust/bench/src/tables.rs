@@ -5,7 +5,7 @@ use witness::generate::Random;
 use crate::chart::Group;
 use crate::compare::{self, Named};
 use crate::cutting::Cutting;
-use crate::rivals::{Desk, Desks, ENGINE, FAST, HASHED};
+use crate::rivals::{Desk, Desks, ENGINE, FAST, FEW_ROWS, HASHED};
 use crate::sheets::{Shape, LARGEST, SHAPES};
 use crate::timing::Rounds;
 
@@ -54,10 +54,12 @@ checks in passes over the lists, with no sort.
 
 /// What the fifth table shows.
 const ROWS: &str = "\
-Rows lent for pixel art of about 4,096 edges, in microseconds:
+Rows lent for pixel art of about 4,096 edges, in microseconds. Much memory is cleared
+more slowly between other work than again and again, so beside the engine and the
+clearing alone stands both: all of them cleared, then a call that is lent 1,000.
 
-| rows lent | engine | clearing them alone | the rest |
-|--:|--:|--:|--:|";
+| rows lent | engine | clearing them alone | the rest | clearing them, then a call with 1,000 |
+|--:|--:|--:|--:|--:|";
 
 /// A shape in one size, compared and ready to be timed: the edges and the peak of
 /// the first sheet, and the edges of all.
@@ -224,11 +226,11 @@ pub fn instructions() {
 pub fn rows(rounds: usize) {
     println!("\n{}", ROWS);
     let sheet = &SHAPES[0].sheets(LARGEST)[0];
-    for rows in [1_000, 1_000_000] {
+    for rows in [FEW_ROWS, 1_000_000] {
         compare::with_rows(&mut Random::new(1), sheet, rows);
         let times = Desk::new(sheet.clone(), rows).time_clearing(rounds);
-        let [engine, clearing] = [0, 1].map(|rival| times.best(rival) / 1e3);
+        let [engine, clearing, both] = [0, 1, 2].map(|rival| times.best(rival) / 1e3);
         let rest = engine - clearing;
-        println!("| {rows} | {engine:.0} | {clearing:.0} | {rest:.0} |");
+        println!("| {rows} | {engine:.0} | {clearing:.0} | {rest:.0} | {both:.0} |");
     }
 }
