@@ -3,12 +3,14 @@
 # under an emulator says nothing. So the engine is built as always, the bitcode that its compiler is handed is kept, and the
 # same bitcode is compiled once more for this machine, at the same level. What is timed then is not the shipped archive.
 #     rust/bench/native.sh            proves and compiles the engine, then runs the benchmark
+#     rust/bench/native.sh --picture docs/speed.svg    the same, and writes the picture; all its words are handed on
 # Needs rt, cargo and a Rust library for this machine. Leaves target/native/libdesk.a.
 set -euo pipefail
 here=$(cd "$(dirname "$0")/../.." && pwd)
 machine=$(uname -m)
+cd "$here"
 if [ "$machine" = x86_64 ]; then
-    exec "$here/.ci/cargo" run --release -p bench
+    exec .ci/cargo run --release -p bench -- "$@"
 fi
 
 kit=${RATTLE_HOME:-$(dirname "$(dirname "$(readlink -f "$(command -v rt)")")")}
@@ -37,7 +39,6 @@ exec "$tools/bin/clang" "\$@"
 WRAPPER
 chmod +x "$work/kit/on/$machine/toolchain/bin/clang"
 
-cd "$here"
 rm -f target/staticlib/libdesk.a
 RATTLE_HOME=$work/kit rt staticlib desk
 [ -f "$work/engine.bc" ] || { echo "native: the engine's bitcode was not seen" >&2; exit 1; }
@@ -97,4 +98,4 @@ mkdir -p target/native
 rm -f target/native/libdesk.a
 "$tools/bin/llvm-ar" rcs target/native/libdesk.a "$work/desk.o" "$work/answer.o"
 
-OUTLINE_ARCHIVE=$here/target/native/libdesk.a exec cargo run --release --manifest-path rust/Cargo.toml --target-dir target/native/cargo -p bench --features laying
+OUTLINE_ARCHIVE=$here/target/native/libdesk.a exec cargo run --release --manifest-path rust/Cargo.toml --target-dir target/native/cargo -p bench --features laying -- "$@"

@@ -3,12 +3,27 @@
 //! film, and where four edges meet by their directions, every round walked once,
 //! outlines sorted by their tops. It gives the same polygon and sequence numbers,
 //! the same turn list and the same refusals but for 10; it writes no journal and
-//! needs no rows.
+//! needs no rows. The map hashes as one likes: there are two joiners, that of
+//! std's own hasher and a fast one.
 
+use std::collections::hash_map::RandomState;
 use std::collections::HashMap;
+use std::hash::{BuildHasher, BuildHasherDefault};
 
 use witness::checks::{Lengths, Refusal, JOURNAL_NUMBERS_PER_EDGE};
 use witness::geometry::{read_edges, Edge, Point, Site, MOST_EDGES, NUMBERS_PER_EDGE};
+
+use crate::multiplying::Multiplying;
+
+/// A way of joining: numbers a list and puts its edges in turn; gives how many
+/// outlines there are.
+pub type Joiner = fn(&[i32], &mut Lent) -> Result<u32, Refusal>;
+
+/// Joining by std's hash map as it is.
+pub const HASH_MAP: Joiner = assemble::<RandomState>;
+
+/// Joining by the same map with a fast hasher.
+pub const FAST_JOINER: Joiner = assemble::<BuildHasherDefault<Multiplying>>;
 
 /// The lists that are filled, and how many numbers the journal has that is not
 /// written.
@@ -34,12 +49,12 @@ impl Lent<'_> {
     }
 }
 
-/// Numbers a list and puts its edges in turn; gives how many outlines there are.
-pub fn assemble(numbers: &[i32], lent: &mut Lent) -> Result<u32, Refusal> {
+/// Joins by a map that hashes in this way.
+fn assemble<S: BuildHasher + Default>(numbers: &[i32], lent: &mut Lent) -> Result<u32, Refusal> {
     check_lengths(numbers.len(), lent.lengths())?;
     let edges = read_edges(numbers);
     check_edges(&edges)?;
-    let ends = Ends::of(&edges)?;
+    let ends = Ends::<S>::of(&edges)?;
     ends.check(9, &edges, Meeting::is_balanced)?;
     ends.check(17, &edges, |meeting| meeting.alternates(&edges))?;
     let followers = ends.followers(&edges);
@@ -149,14 +164,14 @@ impl Meeting {
 }
 
 /// All points of a list, film by film, with the edges there.
-struct Ends {
-    meetings: HashMap<Site, Meeting>,
+struct Ends<S> {
+    meetings: HashMap<Site, Meeting, S>,
 }
 
-impl Ends {
+impl<S: BuildHasher + Default> Ends<S> {
     /// Gathers the ends; refusal 8 where a kind is taken.
-    fn of(edges: &[Edge]) -> Result<Ends, Refusal> {
-        let mut meetings: HashMap<Site, Meeting> = HashMap::with_capacity(edges.len());
+    fn of(edges: &[Edge]) -> Result<Ends<S>, Refusal> {
+        let mut meetings = HashMap::with_capacity_and_hasher(edges.len(), S::default());
         for (place, edge) in edges.iter().enumerate() {
             let up = usize::from(edge.is_up());
             let (tail, head) = (edge.site(edge.tail), edge.site(edge.head));
@@ -248,58 +263,4 @@ fn number_round(
         edge = followers[edge as usize];
     }
     sequence
-}
-
-#[cfg(test)]
-mod tests {
-    use super::*;
-    use witness::call::Call;
-    use witness::checks::IN_ORDER;
-    use witness::generate::{any, damaged, Seed};
-    use witness::Answer;
-
-    /// The answer to a call, and what its three lists hold then.
-    fn outcome(call: &Call) -> (Result<u32, Refusal>, [Vec<u32>; 3]) {
-        let lengths = [call.polygons, call.sequences, call.turns];
-        let mut lists = lengths.map(|length| vec![7; length]);
-        let [polygons, sequences, turns] = &mut lists;
-        let mut lent = Lent {
-            polygons,
-            sequences,
-            turns,
-            journal: call.journal,
-        };
-        let answer = assemble(&call.edges, &mut lent);
-        (answer, lists)
-    }
-
-    #[test]
-    fn the_numbers_and_turns_of_the_witness() {
-        for seed in 0..1_000 {
-            let seed = Seed(seed);
-            let sheet = any(&mut seed.random());
-            let rows = outline::rows_enough(&sheet);
-            let call = Call::fitting(sheet, rows);
-            let wanted = call.outcome(witness::assemble);
-            let (answer, lists) = outcome(&call);
-            match wanted.answer {
-                Answer::Accepted { polygons, .. } => assert_eq!(answer, Ok(polygons)),
-                Answer::Refused(refusal) => panic!("{:?}", refusal),
-            }
-            assert_eq!(lists, [wanted.polygons, wanted.sequences, wanted.turns]);
-        }
-    }
-
-    #[test]
-    fn the_refusals_of_the_witness() {
-        for refusal in IN_ORDER.into_iter().filter(|refusal| *refusal != 10) {
-            for seed in 0..if refusal == 2 { 10 } else { 200 } {
-                let seed = Seed(seed);
-                let call = damaged(&mut seed.random(), refusal);
-                let (answer, _) = outcome(&call);
-                let wanted = call.outcome(witness::assemble).answer;
-                assert_eq!(answer.map_err(Answer::Refused), Err(wanted));
-            }
-        }
-    }
 }

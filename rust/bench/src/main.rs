@@ -1,181 +1,85 @@
-//! How long the engine takes, beside the witness's steps and joining by a hash
-//! map with the same checks: seven shapes in four sizes, printed as tables in
-//! Markdown. The best of many runs counts; clearing the lent slices is part of
-//! the engine's call. And all instructions of the largest sheets, beside plain
-//! Rust with the same checks.
+//! How long the engine takes, beside joining by a hash map with the same checks,
+//! by the same map with a fast hasher, and the witness's steps: eight shapes in
+//! four sizes and small squares, printed as tables in Markdown. Everything is
+//! compared before it is timed. The best of many runs counts; clearing the lent
+//! slices is part of the engine's call. And all instructions of the largest
+//! sheets, beside plain Rust with the same checks.
 
+mod chart;
+mod compare;
 mod cutting;
 mod hashed;
 mod laying;
+mod multiplying;
 mod plain;
 mod rivals;
 mod sheets;
+mod tables;
 mod timing;
 
 use std::env::consts::{ARCH, OS};
-use std::process::Command;
+use std::path::PathBuf;
+use std::process::{exit, Command};
+use std::{env, fs};
 
-use cutting::Cutting;
-use rivals::{Desk, Desks, Times};
-use sheets::{Shape, SHAPES, SIZES};
+use tables::Line;
 
-/// What the first table shows.
-const ASSEMBLING: &str = "\
-Numbers and turns in one call (`outline_assemble`), in nanoseconds an edge, the best
-of many runs over different sheets of a shape, in each size as many as have about
-4,096 edges together; edges and peak are those of the first. Engine, witness and hash
-map check the same refusals and fill the same three lists; the engine and the witness
-clear and fill the rest of what is lent too, with as many rows as the sheet's peak.
-The witness's sweeps are timed once more without its checks and its turn list; they
-find the corners that are apart for themselves. Growth is the engine's time an edge
-beside that of the shape's first line.
+/// How the program is called.
+const USAGE: &str = "\
+bench [--rounds N] [--first] [--picture FILE]
+  --rounds N      rounds in which engine and joiners take turns (11)
+  --first         the first table only
+  --picture FILE  write the first table's largest sheets to a file, as SVG";
 
-| sheet | edges | peak | engine | witness | its sweeps | hash map | engine / witness | engine / its sweeps | engine / hash map | growth |
-|---|--:|--:|--:|--:|--:|--:|--:|--:|--:|--:|";
+/// What is asked for on the command line.
+struct Wishes {
+    rounds: usize,
+    first_only: bool,
+    picture: Option<PathBuf>,
+}
 
-/// What the second table shows.
-const TURN_LISTS: &str = "\
-The turn list read from the same numbers, as if they came from elsewhere
-(`outline_turns`), in nanoseconds an edge; both check refusals 11 to 14. Beside it
-the same list laid by the engine inside `outline_assemble`, where it knows the numbers.
-
-| sheet | edges | engine | witness | engine / witness | growth | inside the call | inside / engine |
-|---|--:|--:|--:|--:|--:|--:|--:|";
-
-/// What the third table shows.
-const INSTRUCTIONS: &str = "\
-All instructions of a sheet for the flatbed, a call for each (`outline_flatbed`): in
-microseconds a call, and in milliseconds for the whole sheet. Plain Rust does the same
-checks in passes over the lists, with no sort.
-
-| sheet | edges | instructions | engine, a call | plain Rust, a call | engine / plain Rust | engine, the sheet | plain Rust, the sheet |
-|---|--:|--:|--:|--:|--:|--:|--:|";
-
-/// What was measured of a shape in one size: the edges and the peak of the first
-/// sheet, and the times for the edges of all.
-struct Measured {
-    name: &'static str,
-    edges: usize,
-    peak: usize,
-    all: usize,
-    times: Times,
+impl Wishes {
+    /// The wishes of some words, or nothing where they are not understood.
+    fn of(mut words: impl Iterator<Item = String>) -> Option<Wishes> {
+        let mut wishes = Wishes {
+            rounds: 11,
+            first_only: false,
+            picture: None,
+        };
+        while let Some(word) = words.next() {
+            match word.as_str() {
+                "--rounds" => wishes.rounds = words.next()?.parse().ok()?,
+                "--first" => wishes.first_only = true,
+                "--picture" => wishes.picture = Some(PathBuf::from(words.next()?)),
+                _ => return None,
+            }
+        }
+        Some(wishes).filter(|wishes| wishes.rounds > 0)
+    }
 }
 
 fn main() {
-    println!("{}\n", machine());
-    let shapes: Vec<Vec<Measured>> = SHAPES.iter().map(measure_shape).collect();
-    println!("{}", ASSEMBLING);
-    for shape in &shapes {
-        shape
-            .iter()
-            .for_each(|line| print_assembling(line, &shape[0]));
-    }
-    println!("\n{}", TURN_LISTS);
-    for shape in &shapes {
-        shape.iter().for_each(|line| print_turns(line, &shape[0]));
-    }
-    println!("\n{}", INSTRUCTIONS);
-    SHAPES.iter().for_each(measure_instructions);
-    measure_rows();
-}
-
-/// A shape in all sizes.
-fn measure_shape(shape: &Shape) -> Vec<Measured> {
-    let measure = |edges: &usize| {
-        let mut desks = Desks::new(shape.sheets(*edges));
-        let (edges, peak) = desks.first();
-        Measured {
-            name: shape.name,
-            edges,
-            peak,
-            all: desks.count(),
-            times: desks.time(),
-        }
-    };
-    SIZES.iter().map(measure).collect()
-}
-
-impl Measured {
-    /// A time for one of the edges.
-    fn an_edge(&self, time: f64) -> f64 {
-        time / self.all as f64
-    }
-}
-
-fn print_assembling(line: &Measured, first: &Measured) {
-    let times = &line.times;
-    println!(
-        "| {} | {} | {} | {:.1} | {:.1} | {:.1} | {:.1} | {:.2} | {:.2} | {:.2} | {:.2} |",
-        line.name,
-        line.edges,
-        line.peak,
-        line.an_edge(times.engine),
-        line.an_edge(times.witness),
-        line.an_edge(times.sweeps),
-        line.an_edge(times.hashed),
-        times.engine / times.witness,
-        times.engine / times.sweeps,
-        times.engine / times.hashed,
-        line.an_edge(times.engine) / first.an_edge(first.times.engine)
-    );
-}
-
-fn print_turns(line: &Measured, first: &Measured) {
-    let times = &line.times;
-    let inside = times.laying.map_or("not timed | ".to_string(), |laying| {
-        format!("{:.1} | {:.2}", line.an_edge(laying), laying / times.turns)
+    let wishes = Wishes::of(env::args().skip(1)).unwrap_or_else(|| {
+        eprintln!("{}", USAGE);
+        exit(2)
     });
-    println!(
-        "| {} | {} | {:.1} | {:.1} | {:.2} | {:.2} | {} |",
-        line.name,
-        line.edges,
-        line.an_edge(times.turns),
-        line.an_edge(times.witness_turns),
-        times.turns / times.witness_turns,
-        line.an_edge(times.turns) / first.an_edge(first.times.turns),
-        inside
-    );
-}
-
-/// All instructions of the shape's largest sheet.
-fn measure_instructions(shape: &Shape) {
-    let cutting = Cutting::of(&shape.sheets(SIZES[3]).remove(0));
-    let (engine, plain) = (cutting.time_engine(), cutting.time_plain());
-    let a_call = |time: f64| time / 1e3 / f64::from(cutting.count);
-    println!(
-        "| {} | {} | {} | {:.2} | {:.2} | {:.2} | {:.1} | {:.1} |",
-        shape.name,
-        cutting.edges(),
-        cutting.count,
-        a_call(engine),
-        a_call(plain),
-        engine / plain,
-        engine / 1e6,
-        plain / 1e6
-    );
-}
-
-/// A thousand rows lent and a million, with what clearing them costs by itself.
-fn measure_rows() {
-    println!(
-        "\nRows lent for pixel art of about {} edges, in microseconds:\n",
-        SIZES[3]
-    );
-    println!("| rows lent | engine | clearing them alone | the rest |");
-    println!("|--:|--:|--:|--:|");
-    for rows in [1_000, 1_000_000] {
-        let sheet = SHAPES[0].sheets(SIZES[3]).remove(0);
-        let mut desk = Desk::new(sheet, rows);
-        desk.compare();
-        let (engine, clearing) = (desk.time_engine(), desk.time_clearing());
-        println!(
-            "| {} | {:.0} | {:.0} | {:.0} |",
-            rows,
-            engine / 1e3,
-            clearing / 1e3,
-            (engine - clearing) / 1e3
-        );
+    compare::random_sheets(0..2_000);
+    compare::damaged_calls(0..200);
+    let mut lines = Line::all();
+    println!("{}\n", machine());
+    let times = tables::assembling(&mut lines, wishes.rounds);
+    if let Some(file) = wishes.picture {
+        let title = "Numbers and turns of sheets of about 4,096 edges";
+        let picture = chart::draw(title, &tables::groups(&lines, &times));
+        fs::write(&file, picture).expect("the picture's file can be written");
     }
+    if wishes.first_only {
+        return;
+    }
+    tables::witness(&mut lines, &times);
+    tables::turn_lists(&mut lines);
+    tables::instructions();
+    tables::rows(wishes.rounds);
 }
 
 /// What the program was built for, what it runs on, and which engine it has.
@@ -196,4 +100,23 @@ fn machine() -> String {
         "The engine is not its static library, which is for x86-64 only, but the same code compiled for this machine."
     };
     format!("Built for {} {}, {}. {}", ARCH, OS, run, engine)
+}
+
+#[test]
+fn words_of_the_command_line() {
+    let of = |words: &str| Wishes::of(words.split_whitespace().map(String::from));
+    let none = of("").unwrap();
+    assert_eq!(
+        (none.rounds, none.first_only, none.picture),
+        (11, false, None)
+    );
+    let all = of("--picture a.svg --first --rounds 3").unwrap();
+    let picture = Some(PathBuf::from("a.svg"));
+    assert_eq!(
+        (all.rounds, all.first_only, all.picture),
+        (3, true, picture)
+    );
+    for wrong in ["--rounds", "--rounds x", "--rounds 0", "--picture", "first"] {
+        assert!(of(wrong).is_none(), "{}", wrong);
+    }
 }

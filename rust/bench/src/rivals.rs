@@ -1,21 +1,23 @@
-//! The three ways to number a sheet and put its edges in turn, on the same lent
-//! slices: the engine, the witness's steps, and joining by a hash map. Before
-//! anything is timed their results are compared. And the turn list read from the
-//! numbers alone.
+//! The ways to number a sheet and put its edges in turn, on the same lent slices:
+//! the engine, the witness's steps, and the two joiners. And the turn list read
+//! from the numbers alone. What comes out of them is compared beforehand.
 
-use outline::{Answer, TurnAnswer};
 use witness::generate::Sheet;
-use witness::geometry::read_edges;
+use witness::geometry::{read_edges, Edge};
 use witness::steps::{sweep_down, sweep_up};
 
-use crate::hashed::{self, Lent};
+use crate::hashed::{Joiner, Lent, FAST_JOINER, HASH_MAP};
 use crate::laying;
-use crate::timing::best;
+use crate::timing::{best, Rounds};
+
+/// Few rows, but enough for pixel art.
+pub const FEW_ROWS: usize = 1_000;
 
 /// A sheet with all that is lent for it. The slices are used again and again as
 /// the last run left them; whoever needs them clear clears them in its own time.
 pub struct Desk {
-    edges: Sheet,
+    list: Sheet,
+    edges: Vec<Edge>,
     polygons: Vec<u32>,
     sequences: Vec<u32>,
     turns: Vec<u32>,
@@ -24,115 +26,72 @@ pub struct Desk {
     outlines: usize,
 }
 
-/// What was measured of a sheet, in nanoseconds.
-pub struct Times {
-    /// The engine.
-    pub engine: f64,
-    /// The witness.
-    pub witness: f64,
-    /// The witness's two sweeps alone, without its checks and its turn list.
-    pub sweeps: f64,
-    /// The hash map.
-    pub hashed: f64,
-    /// The engine's turn list, read from the numbers.
-    pub turns: f64,
-    /// The witness's, likewise.
-    pub witness_turns: f64,
-    /// The engine's turn list laid inside its call, where that part can be timed.
-    pub laying: Option<f64>,
-}
-
 impl Desk {
-    /// A sheet with so many rows.
-    pub fn new(edges: Sheet, rows: usize) -> Desk {
-        let count = edges.len() / outline::NUMBERS_PER_EDGE;
-        Desk {
+    /// A sound sheet with so many rows, which are enough; numbered once, since
+    /// turn lists are read from its numbers.
+    ///
+    /// # Panics
+    /// When it is refused.
+    pub fn new(list: Sheet, rows: usize) -> Desk {
+        let edges = read_edges(&list);
+        let count = edges.len();
+        let mut desk = Desk {
+            list,
+            edges,
             polygons: vec![7; count],
             sequences: vec![7; count],
             turns: vec![7; count],
             journal: vec![7; outline::JOURNAL_NUMBERS_PER_EDGE * count],
             rows: vec![7; outline::NUMBERS_PER_ROW * rows],
             outlines: 0,
-            edges,
-        }
-    }
-
-    /// How many edges the sheet has.
-    pub fn count(&self) -> usize {
-        self.polygons.len()
-    }
-
-    /// Compares the results of all three; gives the peak.
-    ///
-    /// # Panics
-    /// When they differ.
-    pub fn compare(&mut self) -> usize {
-        let (polygons, peak) = match self.engine() {
-            Answer::Accepted { polygons, peak, .. } => (polygons, peak),
-            Answer::Refused(refusal) => panic!("the engine refuses: {}", refusal),
         };
-        self.outlines = polygons as usize;
-        let (lists, journal) = (self.lists(), self.journal.clone());
-        self.spoil();
-        match self.witness() {
-            witness::Answer::Accepted { peak: same, .. } => assert_eq!(peak, same),
-            witness::Answer::Refused(refusal) => panic!("the witness refuses: {:?}", refusal),
-        }
-        assert!(lists == self.lists(), "the witness differs");
-        assert!(journal == self.journal, "the witness's journal differs");
-        self.spoil();
-        assert_eq!(self.hashed(), polygons);
-        assert!(lists == self.lists(), "the hash map differs");
-        self.turns.fill(7);
-        assert_eq!(self.engine_turns(), TurnAnswer::Accepted { polygons });
-        assert!(
-            lists == self.lists(),
-            "the turn list of the numbers differs"
-        );
-        self.turns.fill(7);
-        let same = witness::TurnAnswer::Accepted { polygons };
-        assert_eq!(self.witness_turns(), same);
-        assert!(lists == self.lists(), "the witness's turn list differs");
-        self.compare_laying(&lists);
-        peak as usize
+        desk.outlines = match desk.engine() {
+            outline::Answer::Accepted { polygons, .. } => polygons as usize,
+            outline::Answer::Refused(refusal) => panic!("the engine refuses: {}", refusal),
+        };
+        desk
     }
 
-    /// Compares the turn list laid by itself, where that can be.
-    fn compare_laying(&mut self, lists: &[Vec<u32>; 3]) {
-        self.turns.fill(7);
-        if self.lay() {
-            assert!(*lists == self.lists(), "the turn list laid differs");
-        }
+    /// How many rows are lent.
+    fn lent_rows(&self) -> usize {
+        self.rows.len() / outline::NUMBERS_PER_ROW
     }
 
-    /// Times the engine alone.
-    pub fn time_engine(&mut self) -> f64 {
-        best(|| {
-            self.engine();
-        })
-    }
-
-    /// Times the clearing of the lent rows alone.
-    pub fn time_clearing(&mut self) -> f64 {
-        let time = best(|| self.rows.fill(0));
+    /// Times the engine, the clearing of the lent rows alone, and the clearing
+    /// with a call after it that is lent few of them, in turn.
+    pub fn time_clearing(&mut self, rounds: usize) -> Rounds<3> {
+        let engine = |desk: &mut Desk| {
+            desk.engine();
+        };
+        let clearing = |desk: &mut Desk| desk.rows.fill(0);
+        let both = |desk: &mut Desk| {
+            desk.rows.fill(0);
+            desk.engine_with(FEW_ROWS);
+        };
+        let times = Rounds::of(rounds, self, [engine, clearing, both]);
         assert!(self.rows.iter().all(|number| *number == 0));
-        time
+        times
     }
 
-    fn engine(&mut self) -> Answer {
+    fn engine(&mut self) -> outline::Answer {
+        self.engine_with(self.lent_rows())
+    }
+
+    /// The engine, lent so many of the rows.
+    fn engine_with(&mut self, rows: usize) -> outline::Answer {
         outline::assemble(
-            &self.edges,
+            &self.list,
             &mut self.polygons,
             &mut self.sequences,
             &mut self.turns,
             &mut self.journal,
-            &mut self.rows,
+            &mut self.rows[..outline::NUMBERS_PER_ROW * rows],
         )
     }
 
     fn witness(&mut self) -> witness::Answer {
         witness::assemble(
-            &self.edges,
+            &self.list,
             &mut self.polygons,
             &mut self.sequences,
             &mut self.turns,
@@ -141,27 +100,32 @@ impl Desk {
         )
     }
 
-    fn hashed(&mut self) -> u32 {
+    /// The witness's two sweeps alone, without its checks and its turn list.
+    fn sweeps(&mut self) {
+        let swept = sweep_up(&self.edges, self.lent_rows()).expect("rows enough");
+        let numbering = sweep_down(&swept.records, self.edges.len());
+        assert_eq!(numbering.polygons.len(), self.edges.len());
+    }
+
+    fn join(&mut self, joiner: Joiner) {
         let mut lent = Lent {
             polygons: &mut self.polygons,
             sequences: &mut self.sequences,
             turns: &mut self.turns,
             journal: self.journal.len(),
         };
-        match hashed::assemble(&self.edges, &mut lent) {
-            Ok(polygons) => polygons,
-            Err(refusal) => panic!("the hash map refuses: {:?}", refusal),
-        }
+        assert!(joiner(&self.list, &mut lent).is_ok());
     }
 
-    fn engine_turns(&mut self) -> TurnAnswer {
-        outline::turns(&self.polygons, &self.sequences, &mut self.turns)
+    fn engine_turns(&mut self) {
+        outline::turns(&self.polygons, &self.sequences, &mut self.turns);
     }
 
-    fn witness_turns(&mut self) -> witness::TurnAnswer {
-        witness::turns(&self.polygons, &self.sequences, &mut self.turns)
+    fn witness_turns(&mut self) {
+        witness::turns(&self.polygons, &self.sequences, &mut self.turns);
     }
 
+    /// Lays the turn list alone; says whether that can be.
     fn lay(&mut self) -> bool {
         laying::lay(
             &self.polygons,
@@ -170,97 +134,73 @@ impl Desk {
             &mut self.turns,
         )
     }
-
-    /// What the three lists hold.
-    fn lists(&self) -> [Vec<u32>; 3] {
-        [&self.polygons, &self.sequences, &self.turns].map(Vec::clone)
-    }
-
-    /// Leaves nothing in the lists and the journal of what was found.
-    fn spoil(&mut self) {
-        self.polygons.fill(7);
-        self.sequences.fill(7);
-        self.turns.fill(7);
-        self.journal.fill(7);
-    }
 }
 
 /// Several sheets, each with what is lent for it, worked one after the other.
 pub struct Desks(Vec<Desk>);
 
+/// The engine's place in the rounds.
+pub const ENGINE: usize = 0;
+
+/// That of the hash map.
+pub const HASHED: usize = 1;
+
+/// That of the fast joiner.
+pub const FAST: usize = 2;
+
 impl Desks {
-    /// Each sheet with as many rows as its peak. What comes out is compared.
-    pub fn new(sheets: Vec<Sheet>) -> Desks {
-        let desk = |sheet: Sheet| {
-            let rows = outline::rows_enough(&sheet);
-            let peak = Desk::new(sheet.clone(), rows).compare();
-            let mut desk = Desk::new(sheet, peak);
-            desk.compare();
-            desk
-        };
-        Desks(sheets.into_iter().map(desk).collect())
+    /// Sheets, each with as many rows as its peak.
+    pub fn new(sheets: impl Iterator<Item = (Sheet, usize)>) -> Desks {
+        Desks(sheets.map(|(sheet, peak)| Desk::new(sheet, peak)).collect())
     }
 
     /// How many edges all of them have.
     pub fn count(&self) -> usize {
-        self.0.iter().map(Desk::count).sum()
+        self.0.iter().map(|desk| desk.edges.len()).sum()
     }
 
     /// The edges and the rows of the first one.
     pub fn first(&self) -> (usize, usize) {
-        let desk = &self.0[0];
-        (desk.count(), desk.rows.len() / outline::NUMBERS_PER_ROW)
+        (self.0[0].edges.len(), self.0[0].lent_rows())
     }
 
-    /// Times all rivals.
-    pub fn time(&mut self) -> Times {
-        Times {
-            engine: self.best_of(|desk| {
+    /// Times engine, hash map and fast joiner, so many rounds in turn.
+    pub fn time_in_turn(&mut self, rounds: usize) -> Rounds<3> {
+        let engine = |desks: &mut Desks| {
+            desks.each(|desk| {
                 desk.engine();
-            }),
-            witness: self.best_of(|desk| {
-                desk.witness();
-            }),
-            sweeps: self.time_sweeps(),
-            hashed: self.best_of(|desk| {
-                desk.hashed();
-            }),
-            turns: self.best_of(|desk| {
-                desk.engine_turns();
-            }),
-            witness_turns: self.best_of(|desk| {
-                desk.witness_turns();
-            }),
-            laying: self.time_laying(),
-        }
+            })
+        };
+        let hashed = |desks: &mut Desks| desks.each(|desk| desk.join(HASH_MAP));
+        let fast = |desks: &mut Desks| desks.each(|desk| desk.join(FAST_JOINER));
+        Rounds::of(rounds, self, [engine, hashed, fast])
+    }
+
+    /// Times the witness, and its two sweeps alone.
+    pub fn time_witness(&mut self) -> [f64; 2] {
+        let witness = |desk: &mut Desk| {
+            desk.witness();
+        };
+        [witness, Desk::sweeps].map(|work| best(|| self.each(work)))
+    }
+
+    /// Times the turn list read from the numbers, by engine and by witness.
+    pub fn time_turns(&mut self) -> [f64; 2] {
+        let both: [fn(&mut Desk); 2] = [Desk::engine_turns, Desk::witness_turns];
+        both.map(|work| best(|| self.each(work)))
     }
 
     /// Times the laying of the turn list alone, where that can be.
-    fn time_laying(&mut self) -> Option<f64> {
+    pub fn time_laying(&mut self) -> Option<f64> {
         let able = self.0.iter_mut().all(Desk::lay);
-        able.then(|| {
-            self.best_of(|desk| {
-                desk.lay();
-            })
-        })
+        let lay = |desk: &mut Desk| {
+            desk.lay();
+        };
+        able.then(|| best(|| self.each(lay)))
     }
 
-    /// Times some work on every desk.
-    fn best_of(&mut self, work: fn(&mut Desk)) -> f64 {
-        best(|| self.0.iter_mut().for_each(work))
-    }
-
-    /// Times the witness's two sweeps on the lists as edges.
-    fn time_sweeps(&self) -> f64 {
-        let read = |desk: &Desk| (read_edges(&desk.edges), desk.rows.len());
-        let lists: Vec<_> = self.0.iter().map(read).collect();
-        best(|| {
-            for (edges, room) in &lists {
-                let rows = room / outline::NUMBERS_PER_ROW;
-                let swept = sweep_up(edges, rows).expect("rows enough");
-                let numbering = sweep_down(&swept.records, edges.len());
-                assert_eq!(numbering.polygons.len(), edges.len());
-            }
-        })
+    /// Does some work on every desk.
+    fn each(&mut self, work: impl FnMut(&mut Desk)) {
+        self.0.iter_mut().for_each(work);
     }
 }

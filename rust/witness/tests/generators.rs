@@ -8,10 +8,10 @@ use std::collections::BTreeSet;
 use witness::checks::{checked, Lengths};
 use witness::declared;
 use witness::generate::{
-    any, chessboard, comb, in_films, in_sweep_order, layered, mosaic, moved, patchwork,
+    any, anywhere, chessboard, comb, in_films, in_sweep_order, layered, mosaic, moved, patchwork,
 };
-use witness::generate::{pixels, saw, saws, some_films, spiral, squares, turned_round, walks};
-use witness::generate::{Random, Sheet};
+use witness::generate::{pixels, saw, saws, some_films, spiral, squares, steep_comb};
+use witness::generate::{turned_round, walks, Random, Sheet};
 use witness::geometry::{read_edges, twice_area, Edge, Point, NUMBERS_PER_EDGE};
 use witness::steps::sweep_up;
 use witness::text::read_list;
@@ -92,6 +92,24 @@ fn shapes_have_the_edges_they_claim() {
     assert_eq!(declared::outlines(&board).len(), 8);
     assert_eq!(declared::touching_sites(&board).len(), 2 * 4);
     assert_eq!(declared::apart_sites(&board).len(), 4);
+}
+
+/// Sound, one outline with its film inside, and many more rows in use than a comb
+/// of as many edges has, which has no more than a quarter of them.
+#[test]
+fn a_steep_comb_needs_more_rows_than_a_comb() {
+    for (tops, most_seed, least_peak) in [(2, 9, 2), (255, 9, 160), (2_047, 3, 1_401)] {
+        for seed in 1..=most_seed {
+            let sheet = steep_comb(&mut Random::new(seed), tops);
+            assert!(is_sound(&sheet), "seed {}", seed);
+            let edges = read_edges(&sheet);
+            assert_eq!(edges.len(), 2 * tops + 2);
+            assert_eq!(declared::outlines(&edges).len(), 1);
+            assert!(twice_area(&edges) > 0, "seed {}", seed);
+            let peak = sweep_up(&edges, usize::MAX).unwrap().peak;
+            assert!(peak >= least_peak, "seed {}: {}", seed, peak);
+        }
+    }
 }
 
 #[test]
@@ -210,13 +228,15 @@ fn changes_that_keep_a_sheet_sound() {
         let sheet = any(random);
         let round = turned_round(random, &sheet);
         let pushed = moved(random, &sheet);
+        let elsewhere = anywhere(random, &sheet);
         let again = in_sweep_order(random, read_edges(&sheet));
-        for sheet in [&sheet, &round, &pushed, &again] {
+        for sheet in [&sheet, &round, &pushed, &elsewhere, &again] {
             assert!(is_sound(sheet), "seed {}", seed);
         }
         assert_eq!(sorted(&again), sorted(&sheet));
         let count = |sheet: &Sheet| declared::outlines(&read_edges(sheet)).len();
         assert_eq!(count(&pushed), count(&sheet));
+        assert_eq!(count(&elsewhere), count(&sheet));
         check_turned(&read_edges(&sheet), &read_edges(&round));
         turned += (sorted(&round) != sorted(&sheet)) as usize;
         reordered += (again != sheet) as usize;

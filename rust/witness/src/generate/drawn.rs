@@ -1,7 +1,8 @@
-//! Four shapes drawn by rule: the comb, with all its highest points side by
-//! side; the spiral, with all its chains inside one another; the grid of squares,
-//! with many outlines at once; and the chessboard, whose squares touch. Each can
-//! be made as large as a list may be. All are of film 0.
+//! Five shapes drawn by rule: the comb, with all its highest points side by
+//! side; the steep comb, whose highest and lowest points are in no order; the
+//! spiral, with all its chains inside one another; the grid of squares, with many
+//! outlines at once; and the chessboard, whose squares touch. Each can be made as
+//! large as a list may be. All are of film 0.
 
 use crate::geometry::{Edge, Point};
 
@@ -29,6 +30,27 @@ pub fn comb(random: &mut Random, teeth: usize) -> Sheet {
         for corner in &mut corners {
             corner.y = -corner.y;
         }
+    }
+    in_sweep_order(random, closed(&corners))
+}
+
+/// A steep comb with so many tops (2 to 2,047), two edges a top and two more: one
+/// zigzag from top to bottom to top, closed by edges below all of it. Every top is
+/// above every bottom, no two are at one height, and along the comb the heights
+/// are in no order. So half of the chains wait for their second top when half of
+/// the tops are reached, and the peak is about a third of the edges.
+pub fn steep_comb(random: &mut Random, tops: usize) -> Sheet {
+    let count = tops as i32;
+    let last = 2 * (count - 1);
+    let mut bottoms: Vec<i32> = (1..count).collect();
+    let mut heights: Vec<i32> = (count..2 * count).collect();
+    random.shuffle(&mut bottoms);
+    random.shuffle(&mut heights);
+    let below = [(0, 0), (last / 2, -1), (last, 0)];
+    let mut corners = below.map(|(x, y)| Point::new(x, y)).to_vec();
+    for x in (0..=last).rev() {
+        let of_its_kind = if x % 2 == 0 { &heights } else { &bottoms };
+        corners.push(Point::new(x, of_its_kind[x as usize / 2]));
     }
     in_sweep_order(random, closed(&corners))
 }

@@ -19,9 +19,9 @@ mod walks;
 
 pub use cuts::{any_cutting, cutting, spoil_cutting};
 pub use damage::{damage, damaged};
-pub use drawn::{chessboard, comb, spiral, squares};
+pub use drawn::{chessboard, comb, spiral, squares, steep_comb};
 pub use films::{in_films, layered, some_films};
-pub use order::{in_sweep_order, moved, turned_round};
+pub use order::{anywhere, in_sweep_order, moved, turned_round};
 pub use pixels::{mosaic, of_bitmap, patchwork, pixels, Bitmap};
 pub use random::{Random, Seed};
 pub use saws::{saw, saws};

@@ -33,23 +33,37 @@ pub fn turned_round(random: &mut Random, sheet: &[i32]) -> Sheet {
 /// A sheet pushed into a random corner of the coordinates' range.
 pub fn moved(random: &mut Random, sheet: &[i32]) -> Sheet {
     let (right, up) = (random.one_in(2), random.one_in(2));
-    let edges = read_edges(sheet);
-    let points = || edges.iter().flat_map(|edge| [edge.tail, edge.head]);
-    let x = push(points().map(|point| point.x), right);
-    let y = push(points().map(|point| point.y), up);
-    let at = |point: Point| Point::new(point.x + x, point.y + y);
-    let pushed = edges
-        .iter()
-        .map(|edge| Edge::new(at(edge.tail), at(edge.head), edge.film));
-    write_edges(&pushed.collect::<Vec<Edge>>())
+    let pushed = |(least, most): Room, further: bool| if further { most } else { least };
+    shifted(sheet, |x, y| (pushed(x, right), pushed(y, up)))
 }
 
-/// How far coordinates must move to reach the limit on one side.
-fn push(coordinates: impl Iterator<Item = i32> + Clone, upwards: bool) -> i32 {
-    let outermost = if upwards {
-        coordinates.max().map(|most| Point::LIMIT - most)
-    } else {
-        coordinates.min().map(|least| -Point::LIMIT - least)
-    };
-    outermost.unwrap_or(0)
+/// A sheet moved to a random place of the coordinates' range.
+pub fn anywhere(random: &mut Random, sheet: &[i32]) -> Sheet {
+    let mut within = |(least, most): Room| random.between(least, most);
+    shifted(sheet, |x, y| (within(x), within(y)))
+}
+
+/// How far coordinates can move, from the least to the most.
+type Room = (i32, i32);
+
+/// A sheet shifted by what is chosen, given its room in x and in y.
+fn shifted(sheet: &[i32], choose: impl FnOnce(Room, Room) -> (i32, i32)) -> Sheet {
+    let edges = read_edges(sheet);
+    let points = || edges.iter().flat_map(|edge| [edge.tail, edge.head]);
+    let (x, y) = choose(
+        room(points().map(|point| point.x)),
+        room(points().map(|point| point.y)),
+    );
+    let at = |point: Point| Point::new(point.x + x, point.y + y);
+    let shifted = edges
+        .iter()
+        .map(|edge| Edge::new(at(edge.tail), at(edge.head), edge.film));
+    write_edges(&shifted.collect::<Vec<Edge>>())
+}
+
+/// The room of some coordinates.
+fn room(coordinates: impl Iterator<Item = i32> + Clone) -> Room {
+    let least = coordinates.clone().min().map(|least| -Point::LIMIT - least);
+    let most = coordinates.max().map(|most| Point::LIMIT - most);
+    (least.unwrap_or(0), most.unwrap_or(0))
 }
