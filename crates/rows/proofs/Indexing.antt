@@ -10,9 +10,9 @@ use lib.Dec.{eqb, ltb, leb}
 use lib.IntN.{ℤ}
 use lib.ListN.{length, getD, set, length-set}
 use lib.Seq.{getD-set-same, getD-set-other}
-use borrow.Author.Tests.{lt-ltb, ltb-true, le-leb, leb-true, eq-eqb, ne-eqb}
+use borrow.Author.Tests.{lt-ltb, ltb-true, lt-leb, leb-true, eq-eqb, ne-eqb}
 use Rattle.laws.proofs.Deciding.{lt-or-le, eq-or-ne, true-or-false, not-both, both-true, true-both}
-use Rattle.laws.proofs.Tests.{or-true}
+use Rattle.laws.proofs.Tests.{and-false, or-true}
 use Rattle.sheet.specs.Points.{sameZ, isSame}
 use Rattle.sheet.proofs.Signed.{sameZ-true}
 use Rattle.sheet.proofs.Ranks.{same-point}
@@ -21,11 +21,12 @@ use Rattle.steps.specs.declared.Side.the-variants.{Rising, Falling}
 use Rattle.steps.specs.declared.Found.the-variants.{At, Nothing}
 use Rattle.steps.specs.Rows.{otherSide, on, Row, Branch}
 use Rattle.steps.specs.SweepUp.{foundBelow, hasTip}
+use Rattle.steps.proofs.Finding.{found-at}
 use Rattle.steps.specs.Plain.{withBranch, finishedBranch}
 use Rattle.rows.specs.declared.Place.{Place}
 use Rattle.rows.specs.Layout.{filmPlaces, filmIn, onFilm, HasRow, lookRow, hasTipIn, openedIn, movedIn, finishedIn, freedIn}
 use Rattle.rows.specs.Free.{peakIn, InUse}
-use Rattle.rows.specs.Index.{crowded, sideNumber, upper, slotOf, tipAt, tipOf, live, ownerIn, numberedIn, liveIn, rowOwner, crowds, markedIn, lookAt, told, Owns, Tips, none, only, allOn, Indexed}
+use Rattle.rows.specs.Index.{crowded, sideNumber, upper, slotOf, tipAt, tipOf, live, ownerIn, numberedIn, liveIn, rowOwner, crowds, markedIn, lookAt, told, Owns, Tips, none, only, allOn, Long, Indexed}
 use Rattle.rows.proofs.Searching.{found, nothing, tip-parts}
 use Rattle.rows.proofs.Writing.{OnlyRow, other-row, opened-only, opened-here, moved-only, moved-here, finished-only, finished-here, freed-only, freed-here}
 
@@ -111,20 +112,20 @@ module _ {number : Place → ℕ} {index : List ℕ} {rows : List ℤ} {counts :
   has = hasTipIn rows level side p
 
   -- a row that has the tip is told by the slot
-  told-there : slot < length index → peakIn counts ≤ length index / 6 → (k : ℕ) → k < peakIn counts → has k ≡ true → Owns (getD index slot 0) k
+  told-there : slot < length index → Long index counts → (k : ℕ) → k < peakIn counts → has k ≡ true → Owns (getD index slot 0) k
   unfolding has
   told-there there long k l t =
       let e : slotOf (lookRow rows k .level) side (number (tipOf rows k side)) ≡ slot = rw (tip-parts rows level side p k t .0, tip-there rows level side p k t) refl in
       rw (← e) (I .owners long k l side (not-other side) (tip-live rows level side p k t) (rw e there))
 
   -- where the slot tells one row, no other has the tip
-  sole : slot < length index → peakIn counts ≤ length index / 6 → (q k : ℕ) → getD index slot 0 ≡ suc q → (q ≡ 65534 → ⊥) → k < peakIn counts → has k ≡ true → k ≡ q
+  sole : slot < length index → Long index counts → (q k : ℕ) → getD index slot 0 ≡ suc q → (q ≡ 65534 → ⊥) → k < peakIn counts → has k ≡ true → k ≡ q
   sole there long q k e d l t = ⊎-elim (λ o. omega (arith, o, e)) (λ o. absurd (d (omega (arith, o, e)))) (told-there there long k l t)
 
   nobody : ((k : ℕ) → k < peakIn counts → has k ≡ true → ⊥) → Nothing ≡ foundBelow has (peakIn counts)
   nobody never = nothing has (peakIn counts) (peakIn counts) (omega arith) (λ k l. ⊎-elim (λ t. absurd (never k l t)) (λ f. f) (true-or-false (has k))) (λ k l h. absurd (omega (arith, l, h)))
 
-  by-slot : slot < length index → peakIn counts ≤ length index / 6 → (o : ℕ) → getD index slot 0 ≡ o → told o rows (peakIn counts) level side p ≡ foundBelow has (peakIn counts)
+  by-slot : slot < length index → Long index counts → (o : ℕ) → getD index slot 0 ≡ o → told o rows (peakIn counts) level side p ≡ foundBelow has (peakIn counts)
   unfolding told lookAt has
   by-slot there long zero e = nobody (λ k l t. ⊎-elim (λ o. omega (arith, o, e)) (λ o. omega (arith, o, e)) (told-there there long k l t))
   by-slot there long (suc q) e = ⊎-elim (λ c. rw (eq-eqb q 65534 c)) one (eq-or-ne q 65534)
@@ -142,7 +143,7 @@ module _ {number : Place → ℕ} {index : List ℕ} {rows : List ℤ} {counts :
               let s = sole there long q k e d l t in
               not-both (true-both (lt-ltb q (peakIn counts) (omega (arith, s, l))) (subst (λ (x : ℕ). has x ≡ true) s t)) h)
 
-  pub found-by-index : told (ownerIn index (peakIn counts) slot) rows (peakIn counts) level side p ≡ foundBelow (hasTipIn rows level side p) (peakIn counts)
+  found-by-index : told (ownerIn index (peakIn counts) slot) rows (peakIn counts) level side p ≡ foundBelow (hasTipIn rows level side p) (peakIn counts)
   unfolding ownerIn has told
   found-by-index = by (ltb slot (length index) && leb (peakIn counts) (length index / 6)) refl
     where
@@ -153,6 +154,34 @@ module _ {number : Place → ℕ} {index : List ℕ} {rows : List ℤ} {counts :
           by-slot (ltb-true _ _ (b .0)) (leb-true _ _ (b .1)) (getD index slot 0) refl
       by false h = refl
 
+-- the search by a number that is the place's where the index is long enough for the rows
+pub found-by-number : {number : Place → ℕ} {index : List ℕ} {rows : List ℤ} {counts : List ℕ} (level : ℕ) (side : Side) (p : Place) → Indexed number index rows counts (allOn (otherSide side)) →
+    (k : ℕ) → (Long index counts → k ≡ number p) →
+    told (ownerIn index (peakIn counts) (slotOf level side k)) rows (peakIn counts) level side p ≡ foundBelow (hasTipIn rows level side p) (peakIn counts)
+unfolding ownerIn told
+found-by-number {index = index} {rows} {counts} level side p I k place = ⊎-elim
+    (λ short. rw (lt-leb (peakIn counts) (length index / 6) short, and-false))
+    (λ long. rw (place long) (found-by-index level side p I))
+    (lt-or-le (length index / 6) (peakIn counts))
+
+-- what is found has the tip, and lies below the peak
+module _ (rows : List ℤ) (level : ℕ) (side : Side) (p : Place) (peak q : ℕ) where
+  pub told-at : (o : ℕ) → told o rows peak level side p ≡ At q → (hasTipIn rows level side p q ≡ true) × (q < peak)
+  unfolding told lookAt
+  told-at zero e = let z : _≡_ {A = ℕ} 0 1 = cc in absurd (omega arith)
+  told-at (suc m) e = by (eqb m 65534) e
+    where
+      by : (t : Bool) → cond t (foundBelow (hasTipIn rows level side p) peak) (lookAt rows peak level side p m) ≡ At q → (hasTipIn rows level side p q ≡ true) × (q < peak)
+      by true h = let f = found-at (hasTipIn rows level side p) peak q h in (f .1, f .0)
+      by false h = look (ltb m peak && hasTipIn rows level side p m) refl h
+        where
+          look : (t : Bool) → (ltb m peak && hasTipIn rows level side p m) ≡ t → cond t (At m) Nothing ≡ At q → (hasTipIn rows level side p q ≡ true) × (q < peak)
+          look true t h =
+              let b = both-true (ltb m peak) (hasTipIn rows level side p m) t in
+              let s : m ≡ q = cc in
+              (subst (λ (x : ℕ). hasTipIn rows level side p x ≡ true) s (b .1), subst (λ (x : ℕ). x < peak) s (ltb-true _ _ (b .0)))
+          look false t h = let z : _≡_ {A = ℕ} 0 1 = cc in absurd (omega arith)
+
 -- fewer tips need not be known
 pub but-more : {number : Place → ℕ} {index : List ℕ} {rows : List ℤ} {counts : List ℕ} {but but₁ : Tips} → Indexed number index rows counts but →
     ((q : ℕ) (x : Side) → but q x → but₁ q x) → Indexed number index rows counts but₁
@@ -160,7 +189,7 @@ but-more I more = record { numbers = I .numbers; owners = λ long r l side b. I 
 
 -- a mark: the slot of row r's tip tells it, and every other live row that it told makes it crowded
 module _ {number : Place → ℕ} {index : List ℕ} {rows : List ℤ} {counts : List ℕ} {but but₁ : Tips} (I : Indexed number index rows counts but) (r level : ℕ) (side : Side) {k : ℕ}
-    (of-level : lookRow rows r .level ≡ level) (place : k ≡ number (tipOf rows r side)) (less : (q : ℕ) (x : Side) → but q x → but₁ q x ⊎ ((q ≡ r) × (x ≡ side))) where
+    (of-level : lookRow rows r .level ≡ level) (place : Long index counts → k ≡ number (tipOf rows r side)) (less : (q : ℕ) (x : Side) → but q x → but₁ q x ⊎ ((q ≡ r) × (x ≡ side))) where
   abbrev marked-slot : ℕ
   marked-slot = slotOf level side k
 
@@ -196,7 +225,7 @@ module _ {number : Place → ℕ} {index : List ℕ} {rows : List ℤ} {counts :
   stays q (suc m) (inl e) d l = let c : m ≡ q = omega (arith, e) in rw (c, ne-eqb q r d, l, or-true)
 
   -- a live row of the side whose slot this is
-  lives : peakIn counts ≤ length index / 6 → (q : ℕ) → q < peakIn counts → (x : Side) → x ≡ side → live rows q x ≡ true →
+  lives : Long index counts → (q : ℕ) → q < peakIn counts → (x : Side) → x ≡ side → live rows q x ≡ true →
       slotOf (lookRow rows q .level) x (number (tipOf rows q x)) ≡ marked-slot → liveIn rows index side marked-slot q ≡ true
   unfolding liveIn
   lives long q l x s a e =
@@ -210,13 +239,13 @@ module _ {number : Place → ℕ} {index : List ℕ} {rows : List ℤ} {counts :
     in-use = I .in-use;
   }
     where
-      mine : slotOf (lookRow rows r .level) side (number (tipOf rows r side)) ≡ marked-slot
-      mine = rw (of-level, ← place)
+      mine : Long index counts → slotOf (lookRow rows r .level) side (number (tipOf rows r side)) ≡ marked-slot
+      mine long = rw (of-level, ← place long)
 
-      here : slotOf (lookRow rows r .level) side (number (tipOf rows r side)) < length index → Owns (getD after (slotOf (lookRow rows r .level) side (number (tipOf rows r side))) 0) r
-      here there = rw (mine, after-here (rw mine at there)) (owns-row (crowds rows index side marked-slot r (getD index marked-slot 0)))
+      here : Long index counts → slotOf (lookRow rows r .level) side (number (tipOf rows r side)) < length index → Owns (getD after (slotOf (lookRow rows r .level) side (number (tipOf rows r side))) 0) r
+      here long there = rw (mine long, after-here (rw (mine long) at there)) (owns-row (crowds rows index side marked-slot r (getD index marked-slot 0)))
 
-      another : peakIn counts ≤ length index / 6 → (q : ℕ) → q < peakIn counts → (x : Side) → (but q x → ⊥) → ((q ≡ r) × (x ≡ side) → ⊥) → live rows q x ≡ true →
+      another : Long index counts → (q : ℕ) → q < peakIn counts → (x : Side) → (but q x → ⊥) → ((q ≡ r) × (x ≡ side) → ⊥) → live rows q x ≡ true →
           slotOf (lookRow rows q .level) x (number (tipOf rows q x)) < length index → Owns (getD after (slotOf (lookRow rows q .level) x (number (tipOf rows q x))) 0) q
       another long q l x b apart a there =
           let old = I .owners long q l x b a there in
@@ -229,11 +258,11 @@ module _ {number : Place → ℕ} {index : List ℕ} {rows : List ℤ} {counts :
           (λ d. rw (after-other (slotOf (lookRow rows q .level) x (number (tipOf rows q x))) d) old)
           (eq-or-ne (slotOf (lookRow rows q .level) x (number (tipOf rows q x))) marked-slot)
 
-      owner : peakIn counts ≤ length index / 6 → (q : ℕ) → q < peakIn counts → (x : Side) → (but₁ q x → ⊥) → live rows q x ≡ true →
+      owner : Long index counts → (q : ℕ) → q < peakIn counts → (x : Side) → (but₁ q x → ⊥) → live rows q x ≡ true →
           slotOf (lookRow rows q .level) x (number (tipOf rows q x)) < length index → Owns (getD after (slotOf (lookRow rows q .level) x (number (tipOf rows q x))) 0) q
       owner long q l x b a there = ⊎-elim
           (λ (e : q ≡ r). ⊎-elim
-          (λ (z : x ≡ side). rw (e, z) (here (rw (e, z) at there)))
+          (λ (z : x ≡ side). rw (e, z) (here long (rw (e, z) at there)))
           (λ z. another long q l x (λ c. ⊎-elim b (λ w. z (w .1)) (less q x c)) (λ w. z (w .1)) a there)
           (same-side x side))
           (λ d. another long q l x (λ c. ⊎-elim b (λ w. d (w .0)) (less q x c)) (λ w. d (w .0)) a there)
@@ -257,7 +286,7 @@ module _ {number : Place → ℕ} {index : List ℕ} {rows : List ℤ} {counts :
   abbrev slotNow : ℕ → Side → ℕ
   slotNow q side = slotOf (lookRow rows₁ q .level) side (number (tipOf rows₁ q side))
 
-  long-before : peakIn counts₁ ≤ length index₁ / 6 → peakIn counts ≤ length index / 6
+  long-before : peakIn counts₁ ≤ length index₁ / 6 → Long index counts
   long-before long = let h : peakIn counts₁ ≤ length index / 6 = rw size at long in omega (arith, h, fewer)
 
   slots-kept : (level k : ℕ) (side : Side) → getD index₁ (slotOf level side k) 0 ≡ getD index (slotOf level side k) 0
@@ -277,7 +306,7 @@ module _ {number : Place → ℕ} {index : List ℕ} {rows : List ℤ} {counts :
       subst (λ (j : ℕ). Owns j q) (sym (slots-kept (lookRow rows₁ q .level) (number (tipOf rows₁ q side)) side)) (subst (λ (j : ℕ). Owns (getD index j 0) q) (sym (slot-same q d side)) old)
 
   row-changed : (peakIn counts₁ ≤ length index₁ / 6 → r < peakIn counts₁ → (side : Side) → getD index₁ (tipAt r side) 0 ≡ number (tipOf rows₁ r side)) →
-      (peakIn counts ≤ length index / 6 → r < peakIn counts₁ → (side : Side) → (but₁ r side → ⊥) → live rows₁ r side ≡ true → slotNow r side < length index → Owns (getD index (slotNow r side) 0) r) →
+      (Long index counts → r < peakIn counts₁ → (side : Side) → (but₁ r side → ⊥) → live rows₁ r side ≡ true → slotNow r side < length index → Owns (getD index (slotNow r side) 0) r) →
       Indexed number index₁ rows₁ counts₁ but₁
   row-changed number-here owner-here = record {
     numbers = λ long q l side. ⊎-elim (λ (e : q ≡ r). rw e (number-here long (rw e at l) side)) (other-number long q l side) (eq-or-ne q r);
@@ -310,7 +339,7 @@ tip-fits index r peak side l long = omega (arith, l, long, tip-within r side)
 
 module _ {number : Place → ℕ} {index : List ℕ} {rows : List ℤ} {counts : List ℕ} (r : ℕ) (has : HasRow rows r) where
   -- row r opened at a place: the index knows the place, and not yet the tips
-  pub indexed-opened : {counts₁ : List ℕ} → Indexed number index rows counts none → (level : ℕ) (p : Place) {k : ℕ} → k ≡ number p →
+  pub indexed-opened : {counts₁ : List ℕ} → Indexed number index rows counts none → (level : ℕ) (p : Place) {k : ℕ} → (Long index counts → k ≡ number p) →
       peakIn counts ≤ peakIn counts₁ → ((q : ℕ) → (q ≡ r → ⊥) → q < peakIn counts₁ → q < peakIn counts) → InUse counts₁ (openedIn rows r level p) →
       Indexed number (numberedIn (numberedIn index r Rising k) r Falling k) (openedIn rows r level p) counts₁ (λ q x. q ≡ r)
   indexed-opened {counts₁} I level p {k} place fewer below used = row-changed I r (numberedIn (numberedIn index r Rising k) r Falling k) (openedIn rows r level p) counts₁ (λ q x. q ≡ r) (opened-only rows r level p) size slots fewer below (λ q x d c. absurd c) used here (λ long l side b. absurd (b refl))
@@ -331,10 +360,10 @@ module _ {number : Place → ℕ} {index : List ℕ} {rows : List ℤ} {counts :
 
       here : peakIn counts₁ ≤ length (numberedIn (numberedIn index r Rising k) r Falling k) / 6 → r < peakIn counts₁ → (side : Side) →
           getD (numberedIn (numberedIn index r Rising k) r Falling k) (tipAt r side) 0 ≡ number (tipOf (openedIn rows r level p) r side)
-      here long l side = told-number side (tip-fits index r (peakIn counts₁) side l (rw size at long)) ∙ place ∙ ap number (sym (tip-new side))
+      here long l side = told-number side (tip-fits index r (peakIn counts₁) side l (rw size at long)) ∙ place (omega (arith, rw size at long, fewer)) ∙ ap number (sym (tip-new side))
 
   -- a tip moved to a place on its row's film: the index knows the place, and not yet the tip
-  pub indexed-moved : (side : Side) → Indexed number index rows counts (only r side) → (p : Place) (n : ℕ) {k : ℕ} → k ≡ number p → filmIn rows r ≡ p .film → InUse counts (movedIn rows r side p n) →
+  pub indexed-moved : (side : Side) → Indexed number index rows counts (only r side) → (p : Place) (n : ℕ) {k : ℕ} → (Long index counts → k ≡ number p) → filmIn rows r ≡ p .film → InUse counts (movedIn rows r side p n) →
       Indexed number (numberedIn index r side k) (movedIn rows r side p n) counts (only r side)
   unfolding live
   indexed-moved side I p n {k} place film used =
@@ -364,13 +393,13 @@ module _ {number : Place → ℕ} {index : List ℕ} {rows : List ℤ} {counts :
 
       here : peakIn counts ≤ length (numberedIn index r side k) / 6 → r < peakIn counts → (x : Side) → getD (numberedIn index r side k) (tipAt r x) 0 ≡ number (tipOf (movedIn rows r side p n) r x)
       here long l x =
-          let before : peakIn counts ≤ length index / 6 = rw (numbered-size index r side k) at long in
+          let before : Long index counts = rw (numbered-size index r side k) at long in
           ⊎-elim
-          (λ (e : x ≡ side). rw e (numbered-here index r side k (tip-fits index r (peakIn counts) side l before) ∙ place ∙ ap number (sym tip-new)))
+          (λ (e : x ≡ side). rw e (numbered-here index r side k (tip-fits index r (peakIn counts) side l before) ∙ place before ∙ ap number (sym tip-new)))
           (λ d. numbered-other index r side k (tipAt r x) (tip-side r x side d) ∙ I .numbers before r l x ∙ ap (λ (b : Branch Place). number (b .tip)) (sym (kept x d)))
           (same-side x side)
 
-      there : peakIn counts ≤ length index / 6 → r < peakIn counts → (x : Side) → (only r side r x → ⊥) → live (movedIn rows r side p n) r x ≡ true →
+      there : Long index counts → r < peakIn counts → (x : Side) → (only r side r x → ⊥) → live (movedIn rows r side p n) r x ≡ true →
           slotOf (lookRow (movedIn rows r side p n) r .level) x (number (tipOf (movedIn rows r side p n) r x)) < length index →
           Owns (getD index (slotOf (lookRow (movedIn rows r side p n) r .level) x (number (tipOf (movedIn rows r side p n) r x))) 0) r
       there long l x b a h =
@@ -414,7 +443,7 @@ module _ {number : Place → ℕ} {index : List ℕ} {rows : List ℤ} {counts :
       dead Rising = refl
       dead Falling = refl
 
-      there : peakIn counts ≤ length index / 6 → r < peakIn counts → (x : Side) → (but₁ r x → ⊥) → live (finishedIn rows r side) r x ≡ true →
+      there : Long index counts → r < peakIn counts → (x : Side) → (but₁ r x → ⊥) → live (finishedIn rows r side) r x ≡ true →
           slotOf (lookRow (finishedIn rows r side) r .level) x (number (tipOf (finishedIn rows r side) r x)) < length index →
           Owns (getD index (slotOf (lookRow (finishedIn rows r side) r .level) x (number (tipOf (finishedIn rows r side) r x))) 0) r
       there long l x b a h = ⊎-elim

@@ -92,11 +92,15 @@ only r side q x = (q ≡ r) × (x ≡ side)
 abbrev pub allOn : Side → Tips
 allOn side q x = x ≡ side
 
+-- the index is long enough for the rows
+abbrev pub Long : List ℕ → List ℕ → Type 0
+Long index counts = peakIn counts ≤ length index / 6
+
 -- What searches rest on: the index, where it is long enough for the rows, knows the place of every tip below the peak by its number, and the slot of every live tip tells its row,
 -- but for some tips; and the rows that are noted as in use are.
 pub record Indexed (number : Place → ℕ) (index : List ℕ) (rows : List ℤ) (counts : List ℕ) (but : Tips) : Type 0 where
-  pub numbers : peakIn counts ≤ length index / 6 → (r : ℕ) → r < peakIn counts → (side : Side) → getD index (tipAt r side) 0 ≡ number (tipOf rows r side)
-  pub owners : peakIn counts ≤ length index / 6 → (r : ℕ) → r < peakIn counts → (side : Side) → (but r side → ⊥) → live rows r side ≡ true →
+  pub numbers : Long index counts → (r : ℕ) → r < peakIn counts → (side : Side) → getD index (tipAt r side) 0 ≡ number (tipOf rows r side)
+  pub owners : Long index counts → (r : ℕ) → r < peakIn counts → (side : Side) → (but r side → ⊥) → live rows r side ≡ true →
       slotOf (lookRow rows r .level) side (number (tipOf rows r side)) < length index →
       Owns (getD index (slotOf (lookRow rows r .level) side (number (tipOf rows r side))) 0) r
   pub in-use : InUse counts rows
