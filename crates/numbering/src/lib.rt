@@ -44,7 +44,15 @@ pub fn number(
     );
     match checked {
         Check::Refused(refusal) => Answer::Refused(refusal),
-        Check::Passed => number_checked(edges, &apart, polygons, sequences, journal, rows),
+        Check::Passed => number_checked(
+            edges,
+            &apart,
+            &numbers,
+            polygons,
+            sequences,
+            journal,
+            rows,
+        ),
     }
 }
 
@@ -52,6 +60,7 @@ pub fn number(
 fn number_checked(
     edges: &[i32],
     apart: &[u8],
+    numbers: &[u16],
     polygons: &mut [u32],
     sequences: &mut [u32],
     journal: &mut [i32],
@@ -66,6 +75,7 @@ fn number_checked(
     let answer = sweep_both(
         edges,
         apart,
+        numbers,
         polygons,
         sequences,
         &mut journal[..used],
@@ -79,6 +89,7 @@ fn number_checked(
 fn sweep_both(
     edges: &[i32],
     apart: &[u8],
+    numbers: &[u16],
     polygons: &mut [u32],
     sequences: &mut [u32],
     journal: &mut [i32],
@@ -89,7 +100,7 @@ fn sweep_both(
     ensures { λ r. ⌜ leftAs r (now (polygons .exit)) (now (sequences .exit)) (now (journal .exit)) (now (rows .exit)) ≡ sweeps (fitted (now (edges .entry)) (now (polygons .entry)) (now (sequences .entry)) (now (journal .entry)) (now (rows .entry))) ⌝ }
 {
     let n = edges.len() / Edge::NUMBERS;
-    let swept = sweep::up::sweep_up(edges, n, apart, journal, rows);
+    let swept = sweep::up::sweep_up(edges, n, apart, numbers, journal, rows);
     let edge = swept.edge;
     let progress = swept.progress;
     if !progress.is_done() {

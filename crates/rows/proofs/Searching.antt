@@ -65,6 +65,10 @@ module _ (s : List ℤ) where
         let f = both-true (eqb (row .level) level) place e in
         (eqb-true _ _ (f .0), both-true (not (on side (row .branch) .finished)) here (f .1) .1)
 
+    -- a row that has the tip is there
+    pub tip-has-row : (r : ℕ) → hasTipIn s level side tip r ≡ true → HasRow s r
+    tip-has-row r e = has-row r (tip-in-use r e)
+
     -- a row that is found is there
     pub found-there : (peak r : ℕ) → foundBelow (hasTipIn s level side tip) peak ≡ At r → HasRow s r
     found-there peak r e = has-row r (tip-in-use r (found-at (hasTipIn s level side tip) peak r e .1))

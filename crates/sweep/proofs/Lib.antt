@@ -2,7 +2,10 @@
 pub mod Rooms
 pub mod Attaching
 pub mod Ways
-pub mod Marks
+pub mod Beside
+pub mod Chaining
+pub mod Outcomes
+pub mod Passing
 pub mod Sweeping
 pub mod Sums
 pub mod Handing

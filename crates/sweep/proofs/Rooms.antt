@@ -1,7 +1,7 @@
 -- What the laws of the treatment share: slices that keep their lengths make one room, what follows a treatment that is done or not, and when a row may be
 -- opened: where the slice has the lowest free one. The steps ask too that fewer rows are in use than there are, which is then so: rows in use are rows of
 -- the slice, and this one is not in use.
-use mathlib.Core.Path.{_≡_, refl}
+use mathlib.Core.Path.{_≡_, refl, ap}
 use mathlib.Core.Bool.{true, false}
 use mathlib.Core.List.{List}
 use Prim.Native.Nat.{ℕ}
@@ -36,6 +36,15 @@ module _ {A : Type 0} (s t : A) where
   goes-on Done h = refl
   goes-on NoFreeRow h = absurd (not-both h refl)
   goes-on Overrun h = absurd (not-both h refl)
+
+-- not done is not Done
+pub not-done : {t : End} → isDone t ≡ false → t ≡ Done → ⊥
+not-done d e = not-both (ap isDone e) d
+
+pub is-done-is : (t : End) → isDone t ≡ true → t ≡ Done
+is-done-is Done d = refl
+is-done-is NoFreeRow d = absurd (not-both d refl)
+is-done-is Overrun d = absurd (not-both d refl)
 
 -- the lowest free row
 module _ (a b : List ℤ) (s : Progress) {r : ℕ} (free : r ≡ lowestFree lookRow a (s .peak)) where

@@ -23,11 +23,11 @@ use Rattle.steps.specs.Swept.{numbersPerRecord}
 
 module _ (a b : List ℤ) (list : ℕ → LevelEdge Place) where
   pub next-edge : (i : ℕ) {a₁ b₁ : List ℤ} {w : Swept} → swept a₁ b₁ w ≡ up.sweepUp (lentRoom a b) list (start 0 a b) i →
-      isDone (w .progress .end) ≡ true → length a₁ ≡ length a → length b₁ ≡ length b → {e : NamedEdge} → edgeOf e ≡ list i →
+      isDone (w .progress .end) ≡ true → length a₁ ≡ length a → length b₁ ≡ length b → (e : NamedEdge) → edgeOf e ≡ list i →
       {a₂ b₂ : List ℤ} {p : Progress} → state a₂ b₂ p ≡ up.treat (lentRoom a₁ b₁) levels 0 (state a₁ b₁ (w .progress)) (edgeOf e) →
       swept a₂ b₂ (record { progress = p; edge = i }) ≡ up.sweepUp (lentRoom a b) list (start 0 a b) (i + 1)
   unfolding up.sweepUp
-  next-edge i {a₁} {b₁} {w} s d la lb l t = rw (add-one, ← s) (ap (λ (z : State (List ℤ) (List ℤ)). record { state = z; edge = i }) (rw (same-room a b a₁ b₁ la lb, l) at t) ∙ sym (goes-on _ _ (w .progress .end) d))
+  next-edge i {a₁} {b₁} {w} s d la lb e l t = rw (add-one, ← s) (ap (λ (z : State (List ℤ) (List ℤ)). record { state = z; edge = i }) (rw (same-room a b a₁ b₁ la lb, l) at t) ∙ sym (goes-on _ _ (w .progress .end) d))
 
   stays-by : (k i : ℕ) {a₁ b₁ : List ℤ} {w : Swept} → swept a₁ b₁ w ≡ up.sweepUp (lentRoom a b) list (start 0 a b) i → isDone (w .progress .end) ≡ false →
       swept a₁ b₁ w ≡ up.sweepUp (lentRoom a b) list (start 0 a b) (k + i)

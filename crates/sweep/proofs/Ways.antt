@@ -1,4 +1,4 @@
--- One law for each way out of the four functions that treat an edge: what the calls leave makes up the step. Rooms of slices that keep their lengths are
+-- One law for each way out of the functions that treat an edge: what the calls leave makes up the step. Rooms of slices that keep their lengths are
 -- one room, so a callee's room is the caller's.
 use mathlib.Core.Path.{_≡_, refl, sym, _∙_}
 use mathlib.Core.Bool.{Bool, true, false}
@@ -8,7 +8,9 @@ use native.Mathlib.Numerals.{add-one}
 use native.Mathlib.Omega.{arith}
 use lib.IntN.{ℤ}
 use lib.ListN.{length}
+use mathlib.Core.Logic.{⊎-elim}
 use borrow.Author.Tests.{lt-ltb, le-ltb, eq-eqb, ne-eqb}
+use Rattle.laws.proofs.Deciding.{eq-or-ne}
 use Rattle.sheet.specs.Points.{isSame}
 use Rattle.sheet.proofs.Signed.{sameZ-self}
 use Rattle.rows.specs.declared.Place.{Place}
@@ -21,7 +23,6 @@ use Rattle.steps.specs.SweepUp as up
 use Rattle.steps.specs.SweepUp.{State, foundBelow, bothFinished}
 use Rattle.rows.specs.Layout as rows
 use Rattle.rows.specs.Layout.{filmPlaces, HasRow, lookRow, hasTipIn, finishedIn, freedIn}
-use Rattle.rows.proofs.Searching.{found-there}
 use Rattle.steps.specs.Swept.{rowsIn}
 use Rattle.sweep.specs.declared.Progress.{Progress}
 use Rattle.sweep.specs.declared.NamedEdge.{NamedEdge}
@@ -31,17 +32,22 @@ use Rattle.sweep.proofs.Rooms.{same-room, stops, goes-on, chosen-is, ca
 abbrev Next : Type 0
 Next = State (List ℤ) (List ℤ) → LevelEdge Place → State (List ℤ) (List ℤ)
 
--- a row passed up
+-- a row passed up, where both its branches are finished
 module _ (a b : List ℤ) (left level : ℕ) (s : Progress) (r : ℕ) {t : Bool} (h : t ≡ bothFinished (lookRow a r)) where
   pub up-unfinished : t ≡ false → state a b s ≡ up.passUp (lentRoom a b) (up.treat (lentRoom a b) left level) (state a b s) r
   unfolding up.passUp room rows.rowSlice
   up-unfinished k = rw (← h, k)
 
-  pub up-passed : t ≡ true → {e : NamedEdge} → edgeOf e ≡ up.asEdge r (lookRow a r) → {a₁ : List ℤ} → a₁ ≡ freedIn a r → length a₁ ≡ length a →
-      {a₂ b₂ : List ℤ} {p : Progress} → state a₂ b₂ p ≡ up.treat (lentRoom a₁ b) left level (state a₁ b s) (edgeOf e) →
-      state a₂ b₂ p ≡ up.passUp (lentRoom a b) (up.treat (lentRoom a b) left level) (state a b s) r
-  unfolding up.passUp up.free room rows.rowSlice
-  up-passed k g {a₁} f la i = rw (← h, k, ← g, ← f) (rw (same-room a b a₁ b la refl) at i)
+  pub up-passed : t ≡ true → {a₁ b₁ : List ℤ} {p : Progress} → state a₁ b₁ p ≡ up.treat (lentRoom a b) left level (up.free (lentRoom a b) (state a b s) r) (up.asEdge r (lookRow a r)) →
+      state a₁ b₁ p ≡ up.passUp (lentRoom a b) (up.treat (lentRoom a b) left level) (state a b s) r
+  unfolding up.passUp room rows.rowSlice
+  up-passed k i = rw (← h, k) i
+
+-- a row freed, and its edge
+pub raised : (a b : List ℤ) (left level : ℕ) (s : Progress) (r : ℕ) (e : NamedEdge) → edgeOf e ≡ up.asEdge r (lookRow a r) → {a₁ : List ℤ} {s₁ : Progress} → a₁ ≡ freedIn a r → length a₁ ≡ length a → s₁ ≡ s →
+    up.treat (lentRoom a₁ b) left level (state a₁ b s₁) (edgeOf e) ≡ up.treat (lentRoom a b) left level (up.free (lentRoom a b) (state a b s) r) (up.asEdge r (lookRow a r))
+unfolding up.free room rows.rowSlice
+raised a b left level s r e g {a₁} f la es = rw (same-room a b a₁ b la refl, es, ← g, ← f)
 
 -- the found row, then this row
 module _ (a b : List ℤ) (left level : ℕ) (s : Progress) (q r : ℕ) {a₁ b₁ : List ℤ} {p : Progress}
@@ -50,25 +56,16 @@ module _ (a b : List ℤ) (left level : ℕ) (s : Progress) (q r : ℕ) {a₁ b�
   unfolding up.passBoth
   both-one e = rw (eq-eqb q r e) i
 
-  module _ (n : q ≡ r → ⊥) where
-    pub both-stopped : isDone (p .end) ≡ false → state a₁ b₁ p ≡ up.passBoth (lentRoom a b) (up.treat (lentRoom a b) left level) (state a b s) q r
-    unfolding up.passBoth
-    both-stopped d = rw (ne-eqb q r n, ← i) (sym (stops _ _ (p .end) d))
+  pub both-stopped : isDone (p .end) ≡ false → state a₁ b₁ p ≡ up.passBoth (lentRoom a b) (up.treat (lentRoom a b) left level) (state a b s) q r
+  unfolding up.passBoth
+  both-stopped d = ⊎-elim both-one (λ n. rw (ne-eqb q r n, ← i) (sym (stops _ _ (p .end) d))) (eq-or-ne q r)
 
+  module _ (n : q ≡ r → ⊥) where
     pub both-passed : isDone (p .end) ≡ true → length a₁ ≡ length a → length b₁ ≡ length b → {a₂ b₂ : List ℤ} {p₂ : Progress} →
         state a₂ b₂ p₂ ≡ up.passUp (lentRoom a₁ b₁) (up.treat (lentRoom a₁ b₁) left level) (state a₁ b₁ p) r →
         state a₂ b₂ p₂ ≡ up.passBoth (lentRoom a b) (up.treat (lentRoom a b) left level) (state a b s) q r
     unfolding up.passBoth
     both-passed d la lb j = rw (ne-eqb q r n, ← i) ((rw (same-room a b a₁ b₁ la lb) at j) ∙ sym (goes-on _ _ (p .end) d))
-
--- a row met is a row found
-picked-at : (t : Bool) (f : Found) {q : ℕ} → up.pickMeeting t f ≡ At q → f ≡ At q
-unfolding up.pickMeeting
-picked-at true f h = let z : _≡_ {A = ℕ} 0 1 = cc in absurd (omega arith)
-picked-at false f h = h
-
-pub met-there : (a : List ℤ) (level : ℕ) (side : Side) (p : Place) (peak : ℕ) (t : Bool) {f : Found} {q : ℕ} → f ≡ up.pickMeeting t (foundBelow (hasTipIn a level side p) peak) → f ≡ At q → HasRow a q
-met-there a level side p peak t {f} {q} e n = found-there a level side p peak q (picked-at t (foundBelow (hasTipIn a level side p) peak) (sym e ∙ n))
 
 -- steps 2 to 4 on a row
 module _ (a b : List ℤ) (left level : ℕ) (s : Progress) (above : ℕ) (side : Side) (e : NamedEdge) (r : ℕ) {a₁ b₁ : List ℤ} {p : Progress}
@@ -119,43 +116,33 @@ module _ (a b : List ℤ) (left level : ℕ) (s : Progress) (e : NamedEdge) {t :
     unfolding up.treat room
     treat-none-left z = rw (z, same-ends e, ← h, k)
 
--- step 1 has searched: the edge's ends differ, a level is left, and f is what has its bottom for a tip
-pub record Searched (a b : List ℤ) (left level : ℕ) (s : Progress) (e : NamedEdge) (side : Side) (p : Place) (f : Found) : Type 0 where
-  pub apart : isSame (e .tail) (e .head) ≡ false
-  pub above : 0 < left
-  pub side-is : side ≡ up.sideOf filmPlaces (edgeOf e)
-  pub bottom-is : p ≡ up.bottom side (edgeOf e)
-  pub found-is : f ≡ foundBelow (hasTipIn a level side p) (s .peak)
+-- with a level left, and ends that differ, the four steps
+pub treat-steps : (a b : List ℤ) (left level : ℕ) (s : Progress) (e : NamedEdge) (side : Side) → isSame (e .tail) (e .head) ≡ false → 0 < left → side ≡ up.sideOf filmPlaces (edgeOf e) →
+    up.treat (lentRoom a b) left level (state a b s) (edgeOf e) ≡ up.stepsOn (lentRoom a b) (up.treat (lentRoom a b) (left - 1) (level + 1)) (state a b s) level side (edgeOf e)
+unfolding up.treat room
+treat-steps a b left level s e side d m es = by left m
+  where
+    by : (n : ℕ) → 0 < n → up.treat (lentRoom a b) n level (state a b s) (edgeOf e) ≡ up.stepsOn (lentRoom a b) (up.treat (lentRoom a b) (n - 1) (level + 1)) (state a b s) level side (edgeOf e)
+    by zero h = absurd (omega arith)
+    by (suc n) h = let z : suc n - 1 ≡ n = omega arith in rw (same-ends e, d, z, add-one, es)
 
-module _ {a b : List ℤ} {left level : ℕ} {s : Progress} {e : NamedEdge} {side : Side} {p : Place} {f : Found} (S : Searched a b left level s e side p f) where
-  steps : up.treat (lentRoom a b) left level (state a b s) (edgeOf e) ≡ up.inChain (lentRoom a b) (up.treat (lentRoom a b) (left - 1) (level + 1)) (state a b s) level side (edgeOf e) f
-  unfolding up.treat up.stepsOn up.find room rows.rowSlice hasTipIn
-  steps = by left (S .above)
-    where
-      by : (n : ℕ) → 0 < n →
-          up.treat (lentRoom a b) n level (state a b s) (edgeOf e) ≡ up.inChain (lentRoom a b) (up.treat (lentRoom a b) (n - 1) (level + 1)) (state a b s) level side (edgeOf e) f
-      by zero m = absurd (omega arith)
-      by (suc n) m = let z : suc n - 1 ≡ n = omega arith in rw (same-ends e, S .apart, z, add-one, S .found-is, S .bottom-is, S .side-is)
+-- step 1: a row found, a row opened, or none
+module _ (a b : List ℤ) (level : ℕ) (s : Progress) (e : NamedEdge) (side : Side) (p : Place) {f : Found} (next : Next) (bottom-is : p ≡ up.bottom side (edgeOf e))
+    (found-is : f ≡ foundBelow (hasTipIn a level side p) (s .peak)) where
+  steps : up.stepsOn (lentRoom a b) next (state a b s) level side (edgeOf e) ≡ up.inChain (lentRoom a b) next (state a b s) level side (edgeOf e) f
+  unfolding up.stepsOn up.find room rows.rowSlice hasTipIn
+  steps = rw (found-is, bottom-is)
 
-  pub treat-found : {r : ℕ} → f ≡ At r → {a₁ b₁ : List ℤ} {p₁ : Progress} →
-      state a₁ b₁ p₁ ≡ up.onRow (lentRoom a b) (up.treat (lentRoom a b) (left - 1) (level + 1)) (state a b s) level side (edgeOf e) r →
-      state a₁ b₁ p₁ ≡ up.treat (lentRoom a b) left level (state a b s) (edgeOf e)
+  pub chain-found : {r : ℕ} → f ≡ At r → up.stepsOn (lentRoom a b) next (state a b s) level side (edgeOf e) ≡ up.onRow (lentRoom a b) next (state a b s) level side (edgeOf e) r
   unfolding up.inChain
-  treat-found n i = rw (steps, n) i
+  chain-found n = rw (steps, n)
 
   module _ (n : f ≡ Nothing) {r : ℕ} (free : r ≡ lowestFree lookRow a (s .peak)) where
-    pub treat-no-row : rowsIn a ≤ r → up.ended NoFreeRow (state a b s) ≡ up.treat (lentRoom a b) left level (state a b s) (edgeOf e)
+    pub chain-none : rowsIn a ≤ r → up.stepsOn (lentRoom a b) next (state a b s) level side (edgeOf e) ≡ up.ended NoFreeRow (state a b s)
     unfolding up.inChain
-    treat-no-row m = rw (steps, n, can-open a b s free, le-ltb r (rowsIn a) m)
+    chain-none m = rw (steps, n, can-open a b s free, le-ltb r (rowsIn a) m)
 
-    module _ (m : r < rowsIn a) where
-      in-free-row : (next : Next) →
-          up.inChain (lentRoom a b) next (state a b s) level side (edgeOf e) Nothing ≡ up.onRow (lentRoom a b) next (up.open-row (lentRoom a b) (state a b s) r level p) level side (edgeOf e) r
-      unfolding up.inChain
-      in-free-row next = rw (can-open a b s free, lt-ltb r (rowsIn a) m, ← chosen-is a b s free, S .bottom-is)
-
-      pub treat-opened : {a₁ : List ℤ} {p₁ : Progress} → state a₁ b p₁ ≡ up.open-row (lentRoom a b) (state a b s) r level p → length a₁ ≡ length a →
-          {a₂ b₂ : List ℤ} {p₂ : Progress} →
-          state a₂ b₂ p₂ ≡ up.onRow (lentRoom a₁ b) (up.treat (lentRoom a₁ b) (left - 1) (level + 1)) (state a₁ b p₁) level side (edgeOf e) r →
-          state a₂ b₂ p₂ ≡ up.treat (lentRoom a b) left level (state a b s) (edgeOf e)
-      treat-opened {a₁} o la j = rw (steps, n, in-free-row, ← o) (rw (same-room a b a₁ b la refl) at j)
+    pub chain-opened : r < rowsIn a → {a₁ : List ℤ} {p₁ : Progress} → state a₁ b p₁ ≡ up.open-row (lentRoom a b) (state a b s) r level p →
+        up.stepsOn (lentRoom a b) next (state a b s) level side (edgeOf e) ≡ up.onRow (lentRoom a b) next (state a₁ b p₁) level side (edgeOf e) r
+    unfolding up.inChain
+    chain-opened m o = rw (steps, n, can-open a b s free, lt-ltb r (rowsIn a) m, ← chosen-is a b s free, o, bottom-is)

@@ -1,6 +1,6 @@
 -- The steps on the lent slices: places are points with films, a table of rows and a journal are slices of numbers. The code's own values, its progress and an edge
 -- with its name and lengths, as the steps have them.
-use Prim.Native.Nat.{ℕ, _<_}
+use Prim.Native.Nat.{ℕ, _+_, _*_, _<_}
 use mathlib.Core.Path.{_≡_}
 use mathlib.Core.Bool.{Bool, true, false}
 use mathlib.Core.List.{List}
@@ -14,9 +14,12 @@ use Rattle.sheet.specs.Corners.{apart}
 use Rattle.steps.specs.declared.End.{End}
 use Rattle.steps.specs.declared.End.the-variants.{Done, NoFreeRow, Overrun}
 use Rattle.steps.specs.Rows.{LevelEdge, Room}
+use Rattle.steps.specs.declared.Side.{Side}
+use Rattle.steps.specs.declared.Side.the-variants.{Rising, Falling}
 use Rattle.steps.specs.SweepUp.{State, Sweep, listEdge}
 use Rattle.rows.specs.Layout as rows
 use Rattle.rows.specs.Layout.{onFilm, filmPlaces}
+use Rattle.rows.specs.Free.{peakIn}
 use Rattle.steps.specs.Swept.{rowsIn}
 use Rattle.journal.specs.Layout as journal
 use Rattle.journal.specs.Layout.{recordsIn}
@@ -39,6 +42,15 @@ state a b s = record { rows = a; journal = b; records = s .records; reach = s .p
 abbrev pub edgeOf : NamedEdge → LevelEdge Place
 edgeOf e = record { name = e .name; tail = onFilm (e .film) (e .tail); head = onFilm (e .film) (e .head); length = record { rising = e .rising; falling = e .falling }; apart = e .apart }
 
+-- the number of an edge's bottom, by side
+abbrev pub bottomNumber : Side → NamedEdge → ℕ
+bottomNumber Rising e = e .tails
+bottomNumber Falling e = e .heads
+
+-- The counts beside the slices: number 0 is how many records are written, number 1 the peak; the others are of the crate rows. How far the sweep has come by them.
+abbrev pub progress : List ℕ → End → Progress
+progress counts t = record { records = getD counts 0 0; peak = peakIn counts; end = t }
+
 -- which places of a list are apart
 unfoldable pub apartAt : List ℤ → Place → Bool
 apartAt s p = apart (drawingOf s) (placeOn (p .film) (p .point))
@@ -50,6 +62,12 @@ listEdges s i = listEdge filmPlaces (apartAt s) i (onFilm (edgeAt s i .film) (ed
 -- a mark for each of n edges: 1 where the place of its top is apart, otherwise 0
 abbrev pub TopsMarked : List ℤ → ℕ → List ℕ → Type 0
 TopsMarked s n marks = (i : ℕ) → i < n → getD marks i 0 ≡ bit (listEdges s i .apart)
+
+-- the number of the place of each end of n edges, an edge's tail first, then its head
+pub record PlacesNumbered (s : List ℤ) (n : ℕ) (numbers : List ℕ) : Type 0 where
+  pub number : Place → ℕ
+  pub tails : (i : ℕ) → i < n → getD numbers (2 * i) 0 ≡ number (listEdges s i .tail)
+  pub heads : (i : ℕ) → i < n → getD numbers (2 * i + 1) 0 ≡ number (listEdges s i .head)
 
 abbrev pub isDone : End → Bool
 isDone Done = true

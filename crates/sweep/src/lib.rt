@@ -9,13 +9,11 @@ use sheet::Point;
 use steps::End;
 use steps::Side;
 ghost use mathlib.Core.Path.{_≡_};
-ghost use mathlib.Core.List.{List};
-ghost use Prim.Native.Nat.{_+_, _≤_, _<_, max};
-ghost use lib.IntN.{ℤ};
+ghost use Prim.Native.Nat.{_+_, _≤_};
 ghost use Rattle.steps.specs.Rows.{on};
 ghost use Rattle.steps.specs.SweepUp as up;
 ghost use Rattle.rows.specs.Layout.{filmPlaces};
-ghost use Rattle.sweep.specs.Slices.{state, edgeOf, isDone};
+ghost use Rattle.sweep.specs.Slices.{edgeOf, bottomNumber, isDone};
 
 // How far a sweep up has come: the records written, the peak, and how the last treatment ended.
 pub struct Progress {
@@ -25,54 +23,25 @@ pub struct Progress {
 }
 
 impl Progress {
-    fn ended(self, end: End) -> Progress
-        ensures { λ p. ⌜ ((a b : List ℤ) → state a b p ≡ up.ended end (state a b self)) ⌝ }
-    {
-        Progress {
-            records: self.records,
-            peak: self.peak,
-            end,
-        }
-    }
-
-    // One record more.
-    fn recorded(self) -> Progress
-        requires { ⌜ self .records < 18446744073709551615 ⌝ }
-        ensures { λ p. ⌜ p ≡ record { records = self .records + 1; peak = self .peak; end = self .end } ⌝ }
-    {
-        let end = self.end;
-        Progress {
-            records: self.records + 1,
-            peak: self.peak,
-            end,
-        }
-    }
-
-    // So many rows in use, which may be a new peak.
-    fn in_use(self, n: usize) -> Progress
-        ensures { λ p. ⌜ p ≡ record { records = self .records; peak = max (self .peak) n; end = self .end } ⌝ }
-    {
-        let end = self.end;
-        Progress {
-            records: self.records,
-            peak: higher_of(self.peak, n),
-            end,
-        }
-    }
-
     pub fn is_done(self) -> bool
         ensures { λ t. ⌜ t ≡ isDone (self .end) ⌝ }
     {
         let end = self.end;
-        match end {
-            End::Done => true,
-            End::NoFreeRow => false,
-            End::Overrun => false,
-        }
+        is_done(end)
     }
 }
 
-// An edge of any level: its name, its ends, its film, its two lengths, and whether its top is apart.
+fn is_done(end: End) -> bool
+    ensures { λ t. ⌜ t ≡ isDone end ⌝ }
+{
+    match end {
+        End::Done => true,
+        End::NoFreeRow => false,
+        End::Overrun => false,
+    }
+}
+
+// An edge of any level: its name, its ends, its film, its two lengths, whether its top is apart, and the numbers of the places of its ends.
 struct NamedEdge {
     name: usize,
     tail: Point,
@@ -81,6 +50,8 @@ struct NamedEdge {
     rising: u32,
     falling: u32,
     apart: bool,
+    tails: u16,
+    heads: u16,
 }
 
 impl NamedEdge {
@@ -114,6 +85,16 @@ impl NamedEdge {
         }
     }
 
+    // The number of that place.
+    fn bottom_number(self, side: Side) -> u16
+        ensures { λ n. ⌜ n ≡ bottomNumber side self ⌝ }
+    {
+        match side {
+            Side::Rising => self.tails,
+            Side::Falling => self.heads,
+        }
+    }
+
     fn length(self, side: Side) -> u32
         ensures { λ n. ⌜ (n ≡ on side (edgeOf self .length)) × (n ≤ self .falling + self .rising) ⌝ }
     {
@@ -128,11 +109,4 @@ impl NamedEdge {
 pub struct Swept {
     pub progress: Progress,
     pub edge: usize,
-}
-
-// The higher of two numbers.
-fn higher_of(a: usize, b: usize) -> usize
-    ensures { λ n. ⌜ n ≡ max a b ⌝ }
-{
-    if a < b { b } else { a }
 }

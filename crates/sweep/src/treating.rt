@@ -1,24 +1,37 @@
 // An edge of any level treated: step 1 finds or opens its chain's row, steps 2 and 3 attach it, step 4 finishes branches that meet, and frees and passes up
-// each row that is finished on both sides. A row passed up is an edge of the next level, so treating calls itself one level up, with one level less left.
+// each row that is finished on both sides. A row passed up is an edge of the next level, so raising it calls itself one level up, with one level less left.
+// Beside the rows lie the index and the counts, which spare searches (crate rows); what they rest on is handed on as it is.
 use crate::NamedEdge;
-use crate::Progress;
+use crate::is_done;
 use rows::Place;
+use rows::free;
+use rows::index;
 use steps::End;
 use steps::Found;
 use steps::Side;
 ghost use mathlib.Core.Path.{_≡_};
 ghost use mathlib.Core.List.{List};
-ghost use Prim.Native.Nat.{_+_, _-_, _<_};
+ghost use Prim.Native.Nat.{_+_, _-_, _≤_, _<_, max};
 ghost use lib.IntN.{ℤ};
-ghost use Rattle.steps.specs.Rows.{lowestFree};
+ghost use lib.ListN.{length, getD};
 ghost use Rattle.steps.specs.SweepUp as up;
-ghost use Rattle.rows.specs.Layout.{HasRow, lookRow, hasTipIn};
-ghost use Rattle.rows.specs.Marks.{Marked};
-ghost use Rattle.sweep.specs.Slices.{lentRoom, state, edgeOf};
 ghost use Rattle.steps.specs.SweepUp.{levels};
+ghost use Rattle.rows.specs.Layout.{HasRow, lookRow, openedIn};
+ghost use Rattle.rows.specs.Free.{peakIn};
+ghost use Rattle.rows.specs.Index.{tipAt};
+ghost use Rattle.sweep.specs.Slices.{lentRoom, state, edgeOf, progress};
+ghost use Rattle.sweep.specs.Treated.{Recorded, Opened, Chained, Attached, Met, Numbered, slices, Treated};
 
 // The largest length that a row holds.
 const MOST_LENGTH: u64 = 2_147_483_647;
+
+// Which of the counts is the number of records, and which the peak.
+pub const RECORDS: usize = 0;
+
+pub const PEAK: usize = 1;
+
+// The levels that an edge of the list has above it.
+const LEVELS: u32 = 12;
 
 // An offset with its sign: a minus on the falling side.
 fn signed(side: Side, n: u32) -> i32
@@ -32,78 +45,116 @@ fn signed(side: Side, n: u32) -> i32
 }
 
 // A closing edge: only a record.
-fn close(journal: &mut [i32], s: Progress, level: u32, e: NamedEdge) -> Progress
-    requires { ⌜ e .falling < 2147483648 ⌝ }
-    ensures { λ p. ⌜ ((a : List ℤ) → state a (now (journal .exit)) p ≡ up.close (lentRoom a (now (journal .entry))) (state a (now (journal .entry)) s) level (edgeOf e)) ⌝ }
+fn close(journal: &mut [i32], counts: &mut [u64], level: u32, e: NamedEdge) -> End
+    requires { ⌜ (e .falling < 2147483648) × (3 ≤ length (now counts)) ⌝ }
+    ensures { λ t. ⌜ ((a : List ℤ) → state a (now (journal .exit)) (progress (now (counts .exit)) t) ≡ up.close (lentRoom a (now (journal .entry))) (state a (now (journal .entry)) (progress (now (counts .entry)) End.Done)) level (edgeOf e)) ⌝ }
+    ensures { λ _. ⌜ Recorded (now (counts .entry)) (now (counts .exit)) ⌝ }
 {
-    let records = s.records;
+    let records = counts[RECORDS] as usize;
     if journal::records_in(journal) <= records {
-        return s.ended(End::Overrun);
+        return End::Overrun;
     }
     let name = e.name;
     let falling = e.falling;
     journal::write_closing(journal, records, level, name, falling as i32);
-    s.recorded()
+    counts[RECORDS] = (records + 1) as u64;
+    End::Done
 }
 
-// The lowest free row opened at a place. As the rows below it are in use, its name tells the peak.
+// The higher of the peak and a number of rows.
+fn higher_of(a: u64, b: u64) -> u64
+    ensures { λ n. ⌜ n ≡ max a b ⌝ }
+{
+    if a < b { b } else { a }
+}
+
+// The lowest free row opened at a place, for an edge that works on the side: its tip there is moved at once, and not marked. As the rows below it are in use, its
+// name tells the peak.
 fn open_lowest(
     rows: &mut [i32],
-    marks: &mut [u8],
-    s: Progress,
+    index: &mut [u16],
+    counts: &mut [u64],
     r: usize,
     level: u32,
+    side: Side,
     tip: Place,
-) -> Progress
-    requires { ⌜ HasRow (now rows) r × (level < 2147483647) × (r ≡ lowestFree lookRow (now rows) (s .peak)) ⌝ }
-    requires { ⌜ Marked (now marks) (now rows) (s .peak) ⌝ }
-    ensures { λ p. ⌜ ((b : List ℤ) → state (now (rows .exit)) b p ≡ up.open-row (lentRoom (now (rows .entry)) b) (state (now (rows .entry)) b s) r level tip) ⌝ }
-    ensures { λ p. ⌜ Marked (now (marks .exit)) (now (rows .exit)) (p .peak) ⌝ }
+    number: u16,
+)
+    requires { ⌜ HasRow (now rows) r × (level < 2147483647) × (3 ≤ length (now counts)) ⌝ }
+    ensures { λ _. ⌜ now (rows .exit) ≡ openedIn (now (rows .entry)) r level tip ⌝ }
+    ensures { λ _. ⌜ Opened (now (rows .entry)) (now (index .entry)) (now (counts .entry)) r side tip number (now (rows .exit)) (now (index .exit)) (now (counts .exit)) ⌝ }
 {
     rows::open_row(rows, r, level, tip);
-    rows::marks::mark(marks, level, Side::Rising, tip, r);
-    rows::marks::mark(marks, level, Side::Falling, tip, r);
-    s.in_use(r + 1)
+    index::set_number(rows, index, r, Side::Rising, number);
+    index::set_number(rows, index, r, Side::Falling, number);
+    index::mark(rows, index, level, side.other(), number, r);
+    free::take(counts, r);
+    counts[PEAK] = higher_of(counts[PEAK], (r + 1) as u64);
 }
 
-// Steps 2 and 3: the record, and the tip moved to the edge's top.
+// Step 1: the row of an edge's chain, found or opened. As many as there are rows where none is free.
+fn chain_row(
+    rows: &mut [i32],
+    index: &mut [u16],
+    counts: &mut [u64],
+    level: u32,
+    side: Side,
+    e: NamedEdge,
+) -> usize
+    requires { ⌜ (level < 2147483647) × (3 ≤ length (now counts)) ⌝ }
+    ensures { λ r. ⌜ Chained (now (rows .entry)) (now (index .entry)) (now (counts .entry)) level side e r (now (rows .exit)) (now (index .exit)) (now (counts .exit)) ⌝ }
+{
+    let bottom = e.bottom(side);
+    let number = e.bottom_number(side);
+    let Found::At(r) = index::find(rows, index, counts, level, side, bottom, number) else {
+        let free = free::lowest_free(rows, counts);
+        if free < rows::rows_in(rows) {
+            open_lowest(rows, index, counts, free, level, side, bottom, number);
+        }
+        return free;
+    };
+    r
+}
+
+// Steps 2 and 3: the record, and the tip moved to the edge's top. The tip is not marked yet: it may be finished at once.
 fn attach(
     rows: &mut [i32],
     journal: &mut [i32],
-    marks: &mut [u8],
-    s: Progress,
+    index: &mut [u16],
+    counts: &mut [u64],
     level: u32,
     side: Side,
     e: NamedEdge,
     r: usize,
-) -> Progress
-    requires { ⌜ HasRow (now rows) r × (lookRow (now rows) r .level ≡ level) ⌝ }
-    requires { ⌜ Marked (now marks) (now rows) (s .peak) ⌝ }
-    ensures { λ p. ⌜ state (now (rows .exit)) (now (journal .exit)) p ≡ up.attach (lentRoom (now (rows .entry)) (now (journal .entry))) (state (now (rows .entry)) (now (journal .entry)) s) level side (edgeOf e) r ⌝ }
-    ensures { λ p. ⌜ Marked (now (marks .exit)) (now (rows .exit)) (p .peak) ⌝ }
+) -> End
+    requires { ⌜ HasRow (now rows) r × (3 ≤ length (now counts)) ⌝ }
+    ensures { λ t. ⌜ state (now (rows .exit)) (now (journal .exit)) (progress (now (counts .exit)) t) ≡ up.attach (lentRoom (now (rows .entry)) (now (journal .entry))) (state (now (rows .entry)) (now (journal .entry)) (progress (now (counts .entry)) End.Done)) level side (edgeOf e) r ⌝ }
+    ensures { λ t. ⌜ Attached (now (rows .entry)) (now (index .entry)) (now (counts .entry)) side e r t (now (rows .exit)) (now (index .exit)) (now (counts .exit)) ⌝ }
 {
-    let records = s.records;
+    let records = counts[RECORDS] as usize;
     if journal::records_in(journal) <= records {
-        return s.ended(End::Overrun);
+        return End::Overrun;
     }
     let before = rows::length_of(rows, r, side);
     let longer = (before as u64) + (e.falling as u64) + (e.rising as u64);
     if MOST_LENGTH < longer {
-        return s.ended(End::Overrun);
+        return End::Overrun;
     }
     let offset = signed(side, before + e.length(side.other()));
     let name = e.name;
     journal::write_attached(journal, records, level, name, r, offset);
     let top = e.bottom(side.other());
     rows::move_tip(rows, r, side, top, longer as u32);
-    rows::marks::mark(marks, level, side, top, r);
-    s.recorded()
+    index::set_number(rows, index, r, side, e.bottom_number(side.other()));
+    counts[RECORDS] = (records + 1) as u64;
+    End::Done
 }
 
 // A row with both branches finished, as an edge of the next level.
-fn as_edge(rows: &[i32], r: usize) -> NamedEdge
+fn as_edge(rows: &[i32], index: &[u16], r: usize) -> NamedEdge
     requires { ⌜ HasRow (now rows) r ⌝ }
     ensures { λ e. ⌜ (edgeOf e ≡ up.asEdge r (lookRow (now (rows .entry)) r)) × (e .falling < 2147483648) ⌝ }
+    ensures { λ e. ⌜ (e .tails ≡ getD (now (index .entry)) (tipAt r Side.Falling) 0) × (e .heads ≡ getD (now (index .entry)) (tipAt r Side.Rising) 0) ⌝ }
 {
     let falling_tip = rows::tip_of(rows, r, Side::Falling);
     let rising_tip = rows::tip_of(rows, r, Side::Rising);
@@ -112,6 +163,8 @@ fn as_edge(rows: &[i32], r: usize) -> NamedEdge
     let head = rising_tip.point;
     let rising = rows::length_of(rows, r, Side::Rising);
     let falling = rows::length_of(rows, r, Side::Falling);
+    let tails = index::number_of(rows, index, r, Side::Falling);
+    let heads = index::number_of(rows, index, r, Side::Rising);
     NamedEdge {
         name: r,
         tail,
@@ -120,141 +173,153 @@ fn as_edge(rows: &[i32], r: usize) -> NamedEdge
         rising,
         falling,
         apart: false,
+        tails,
+        heads,
     }
 }
 
 // Step 4's search: the row whose branch on the side has its tip at the place; none where the place is apart.
 fn meeting(
     rows: &[i32],
-    marks: &[u8],
-    peak: usize,
+    index: &[u16],
+    counts: &[u64],
     level: u32,
     side: Side,
     tip: Place,
+    number: u16,
     apart: bool,
 ) -> Found
-    requires { ⌜ (level < 2147483647) × Marked (now marks) (now rows) peak ⌝ }
-    ensures { λ f. ⌜ f ≡ up.pickMeeting apart (up.foundBelow (hasTipIn (now (rows .entry)) level side tip) peak) ⌝ }
+    requires { ⌜ (level < 2147483647) × (3 ≤ length (now counts)) ⌝ }
+    ensures { λ f. ⌜ Met (now (rows .entry)) (now (index .entry)) (now (counts .entry)) level side tip number apart f ⌝ }
 {
     if apart {
         return Found::Nothing;
     }
-    rows::find(rows, marks, peak, level, side, tip)
+    index::find(rows, index, counts, level, side, tip, number)
 }
 
-// An edge of a level with so many levels left above it. Equal ends close an outline; any other edge goes into the row found, or a free one.
-pub fn treat(
+// An edge of the list. Equal ends close an outline; any other edge goes into the row found, or a free one. As `raise` has it, but for level 0: most edges are of that
+// level.
+pub fn treat_first(
     rows: &mut [i32],
     journal: &mut [i32],
-    marks: &mut [u8],
-    s: Progress,
-    level: u32,
-    left: u32,
+    index: &mut [u16],
+    counts: &mut [u64],
     e: NamedEdge,
-) -> Progress
-    requires { ⌜ (level + left ≡ levels) × (e .falling < 2147483648) ⌝ }
-    requires { ⌜ Marked (now marks) (now rows) (s .peak) ⌝ }
-    ensures { λ p. ⌜ state (now (rows .exit)) (now (journal .exit)) p ≡ up.treat (lentRoom (now (rows .entry)) (now (journal .entry))) left level (state (now (rows .entry)) (now (journal .entry)) s) (edgeOf e) ⌝ }
-    ensures { λ p. ⌜ Marked (now (marks .exit)) (now (rows .exit)) (p .peak) ⌝ }
+) -> End
+    requires { ⌜ (e .falling < 2147483648) × (3 ≤ length (now counts)) ⌝ }
+    ensures { λ t. ⌜ Treated (λ number. Numbered number (now (index .entry)) (now (counts .entry)) e) (slices (now (rows .entry)) (now (journal .entry)) (now (index .entry)) (now (counts .entry))) (slices (now (rows .exit)) (now (journal .exit)) (now (index .exit)) (now (counts .exit))) t (up.treat (lentRoom (now (rows .entry)) (now (journal .entry))) levels 0 (state (now (rows .entry)) (now (journal .entry)) (progress (now (counts .entry)) End.Done)) (edgeOf e)) ⌝ }
 {
     let tail = e.tail;
     if tail.same(e.head) {
-        return close(journal, s, level, e);
+        return close(journal, counts, 0, e);
     }
-    if left == 0 {
-        return s.ended(End::Overrun);
-    }
-    let peak = s.peak;
     let side = e.side();
-    let bottom = e.bottom(side);
-    let Found::At(r) = rows::find(rows, marks, peak, level, side, bottom) else {
-        let free = rows::lowest_free(rows, peak);
-        if rows::rows_in(rows) <= free {
-            return s.ended(End::NoFreeRow);
-        }
-        let t = open_lowest(rows, marks, s, free, level, bottom);
-        return on_row(rows, journal, marks, t, level, left, side, e, free);
-    };
-    on_row(rows, journal, marks, s, level, left, side, e, r)
-}
-
-// Steps 2 to 4 on a row.
-fn on_row(
-    rows: &mut [i32],
-    journal: &mut [i32],
-    marks: &mut [u8],
-    s: Progress,
-    level: u32,
-    left: u32,
-    side: Side,
-    e: NamedEdge,
-    r: usize,
-) -> Progress
-    requires { ⌜ HasRow (now rows) r × (lookRow (now rows) r .level ≡ level) × (level + left ≡ levels) × (0 < left) ⌝ }
-    requires { ⌜ Marked (now marks) (now rows) (s .peak) ⌝ }
-    ensures { λ p. ⌜ state (now (rows .exit)) (now (journal .exit)) p ≡ up.onRow (lentRoom (now (rows .entry)) (now (journal .entry))) (up.treat (lentRoom (now (rows .entry)) (now (journal .entry))) (left - 1) (level + 1)) (state (now (rows .entry)) (now (journal .entry)) s) level side (edgeOf e) r ⌝ }
-    ensures { λ p. ⌜ Marked (now (marks .exit)) (now (rows .exit)) (p .peak) ⌝ }
-{
-    let t = attach(rows, journal, marks, s, level, side, e, r);
-    if !t.is_done() {
+    let r = chain_row(rows, index, counts, 0, side, e);
+    if rows::rows_in(rows) <= r {
+        return End::NoFreeRow;
+    }
+    let t = attach(rows, journal, index, counts, 0, side, e, r);
+    if !is_done(t) {
         return t;
     }
     let other = side.other();
     let top = e.bottom(other);
-    let peak = t.peak;
-    let Found::At(q) = meeting(rows, marks, peak, level, other, top, e.apart) else {
-        return t;
+    let number = e.bottom_number(other);
+    let Found::At(q) = meeting(rows, index, counts, 0, other, top, number, e.apart) else {
+        index::mark(rows, index, 0, side, number, r);
+        return End::Done;
     };
     rows::finish(rows, q, other);
     rows::finish(rows, r, side);
-    pass_both(rows, journal, marks, t, level, left, q, r)
+    pass_both(rows, journal, index, counts, 0, LEVELS, q, r)
 }
 
-// The row found, then this row; once where they are one.
+// The row found, then this row; once where they are one. Each is passed up where both its branches are finished.
 fn pass_both(
     rows: &mut [i32],
     journal: &mut [i32],
-    marks: &mut [u8],
-    s: Progress,
+    index: &mut [u16],
+    counts: &mut [u64],
     level: u32,
     left: u32,
     q: usize,
     r: usize,
-) -> Progress
-    requires { ⌜ HasRow (now rows) q × HasRow (now rows) r × (level + left ≡ levels) × (0 < left) ⌝ }
-    requires { ⌜ Marked (now marks) (now rows) (s .peak) ⌝ }
-    ensures { λ p. ⌜ state (now (rows .exit)) (now (journal .exit)) p ≡ up.passBoth (lentRoom (now (rows .entry)) (now (journal .entry))) (up.treat (lentRoom (now (rows .entry)) (now (journal .entry))) (left - 1) (level + 1)) (state (now (rows .entry)) (now (journal .entry)) s) q r ⌝ }
-    ensures { λ p. ⌜ Marked (now (marks .exit)) (now (rows .exit)) (p .peak) ⌝ }
+) -> End
+    requires { ⌜ HasRow (now rows) q × HasRow (now rows) r × (level + left ≡ levels) × (0 < left) × (3 ≤ length (now counts)) ⌝ }
+    ensures { λ t. ⌜ Treated (λ number. (q < peakIn (now (counts .entry))) × (r < peakIn (now (counts .entry)))) (slices (now (rows .entry)) (now (journal .entry)) (now (index .entry)) (now (counts .entry))) (slices (now (rows .exit)) (now (journal .exit)) (now (index .exit)) (now (counts .exit))) t (up.passBoth (lentRoom (now (rows .entry)) (now (journal .entry))) (up.treat (lentRoom (now (rows .entry)) (now (journal .entry))) (left - 1) (level + 1)) (state (now (rows .entry)) (now (journal .entry)) (progress (now (counts .entry)) End.Done)) q r) ⌝ }
 {
-    let t = pass_up(rows, journal, marks, s, level, left, q);
+    let t = pass_up(rows, journal, index, counts, level, left, q);
+    if !is_done(t) {
+        return t;
+    }
     if q == r {
         return t;
     }
-    if !t.is_done() {
-        return t;
-    }
-    pass_up(rows, journal, marks, t, level, left, r)
+    pass_up(rows, journal, index, counts, level, left, r)
 }
 
-// A row with both branches finished is freed and passed up. Its edge is read first: once free, the row may be opened again.
+// A row passed up where both its branches are finished. Most are not: the test stands before the call.
 fn pass_up(
     rows: &mut [i32],
     journal: &mut [i32],
-    marks: &mut [u8],
-    s: Progress,
+    index: &mut [u16],
+    counts: &mut [u64],
     level: u32,
     left: u32,
     r: usize,
-) -> Progress
-    requires { ⌜ HasRow (now rows) r × (level + left ≡ levels) × (0 < left) ⌝ }
-    requires { ⌜ Marked (now marks) (now rows) (s .peak) ⌝ }
-    ensures { λ p. ⌜ state (now (rows .exit)) (now (journal .exit)) p ≡ up.passUp (lentRoom (now (rows .entry)) (now (journal .entry))) (up.treat (lentRoom (now (rows .entry)) (now (journal .entry))) (left - 1) (level + 1)) (state (now (rows .entry)) (now (journal .entry)) s) r ⌝ }
-    ensures { λ p. ⌜ Marked (now (marks .exit)) (now (rows .exit)) (p .peak) ⌝ }
+) -> End
+    requires { ⌜ HasRow (now rows) r × (level + left ≡ levels) × (0 < left) × (3 ≤ length (now counts)) ⌝ }
+    ensures { λ t. ⌜ Treated (λ number. r < peakIn (now (counts .entry))) (slices (now (rows .entry)) (now (journal .entry)) (now (index .entry)) (now (counts .entry))) (slices (now (rows .exit)) (now (journal .exit)) (now (index .exit)) (now (counts .exit))) t (up.passUp (lentRoom (now (rows .entry)) (now (journal .entry))) (up.treat (lentRoom (now (rows .entry)) (now (journal .entry))) (left - 1) (level + 1)) (state (now (rows .entry)) (now (journal .entry)) (progress (now (counts .entry)) End.Done)) r) ⌝ }
 {
     if !rows::both_finished(rows, r) {
-        return s;
+        return End::Done;
     }
-    let e = as_edge(rows, r);
+    raise(rows, journal, index, counts, level, left, r)
+}
+
+// A row freed and treated as an edge of the next level. Its edge is read first: once free, the row may be opened again.
+fn raise(
+    rows: &mut [i32],
+    journal: &mut [i32],
+    index: &mut [u16],
+    counts: &mut [u64],
+    under: u32,
+    above: u32,
+    r: usize,
+) -> End
+    requires { ⌜ HasRow (now rows) r × (under + above ≡ levels) × (0 < above) × (3 ≤ length (now counts)) ⌝ }
+    ensures { λ t. ⌜ Treated (λ number. r < peakIn (now (counts .entry))) (slices (now (rows .entry)) (now (journal .entry)) (now (index .entry)) (now (counts .entry))) (slices (now (rows .exit)) (now (journal .exit)) (now (index .exit)) (now (counts .exit))) t (up.treat (lentRoom (now (rows .entry)) (now (journal .entry))) (above - 1) (under + 1) (up.free (lentRoom (now (rows .entry)) (now (journal .entry))) (state (now (rows .entry)) (now (journal .entry)) (progress (now (counts .entry)) End.Done)) r) (up.asEdge r (lookRow (now (rows .entry)) r))) ⌝ }
+{
+    let e = as_edge(rows, index, r);
     rows::free_row(rows, r);
-    treat(rows, journal, marks, s, level + 1, left - 1, e)
+    free::give_back(counts, r);
+    let level = under + 1;
+    let left = above - 1;
+    let tail = e.tail;
+    if tail.same(e.head) {
+        return close(journal, counts, level, e);
+    }
+    if left == 0 {
+        return End::Overrun;
+    }
+    let side = e.side();
+    let row = chain_row(rows, index, counts, level, side, e);
+    if rows::rows_in(rows) <= row {
+        return End::NoFreeRow;
+    }
+    let t = attach(rows, journal, index, counts, level, side, e, row);
+    if !is_done(t) {
+        return t;
+    }
+    let other = side.other();
+    let top = e.bottom(other);
+    let number = e.bottom_number(other);
+    let Found::At(q) = meeting(rows, index, counts, level, other, top, number, e.apart) else {
+        index::mark(rows, index, level, side, number, row);
+        return End::Done;
+    };
+    rows::finish(rows, q, other);
+    rows::finish(rows, row, side);
+    pass_both(rows, journal, index, counts, level, left, q, row)
 }

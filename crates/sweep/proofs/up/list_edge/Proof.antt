@@ -7,8 +7,11 @@ use Rattle.sweep.proofs.up.list_edge.Tie as tie
 
 returns : tie.Need-returns
 returns c =
-    let edge = c .before .before .before .at in
-    rw (read-back (edge .result .film) (c .before .before .struct-told .given .1 .1 .0 .1), edge .ensures, c .before .before .before .before .pre .1) (refl, refl)
+    let c4 = c .before .before .before in
+    let c3 = c4 .before in
+    let c2 = c3 .before in
+    let edge = c2 .at in
+    rw (read-back (edge .result .film) (c3 .struct-told .given .1 .1 .0 .1), edge .ensures, c2 .before .before .pre .1) (refl, refl, refl, refl)
 
 pub list-edge-spec : {M : Type 1} → statement M
-list-edge-spec = tie.close (tie.spec (search needs) returns)
+list-edge-spec = tie.close (tie.spec (search needs) (search needs) (search needs) (search needs) (search needs) (search needs) (search needs) (search needs) returns)
