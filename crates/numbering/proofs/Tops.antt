@@ -1,9 +1,10 @@
--- Which tops are apart: as the sweep on slices asks for it, by points with films, as the drawing has it, and as the checks marked it.
+-- Which tops are apart, and the numbers of places: as the sweep on slices asks for them, by points with films, as the drawing has them, and as the checks left them.
 use mathlib.Core.Path.{_≡_, refl, sym, ap, _∙_}
 use mathlib.Core.Bool.{Bool, true, false, cond}
 use mathlib.Core.List.{List}
 use Prim.Native.Nat.{ℕ, _<_}
 use lib.Dec.{ltb}
+use lib.IntN.{ℤ}
 use borrow.Author.Tests.{lt-ltb}
 use Rattle.laws.specs.Counting.{bit}
 use Rattle.laws.proofs.Deciding.{neither-true}
@@ -13,11 +14,14 @@ use Rattle.sheet.specs.Edges.{edgeAt, edgesIn, drawingOf}
 use Rattle.sheet.specs.Corners.{apart}
 use Rattle.sheet.specs.Answers.{Call, tangled, notAlternating}
 use Rattle.sheet.proofs.Places.{place-below}
+use Rattle.sheet.specs.Rank.{placeOn}
 use Rattle.checks.specs.Corners.{topPlace, parts, Marked}
+use Rattle.checks.specs.Numbers.{placeNumber, Numbered}
+use Rattle.checks.proofs.NumbersRead.{tail-number, head-number}
 use Rattle.checks.proofs.Passed.{AllPassed}
 use Rattle.steps.specs.Swept.{drawnEdge}
 use Rattle.rows.specs.Layout.{onFilm, filmPlaces}
-use Rattle.sweep.specs.Slices.{apartAt, listEdges, TopsMarked}
+use Rattle.sweep.specs.Slices.{apartAt, listEdges, TopsMarked, PlacesNumbered}
 
 module _ {c : Call} (all : AllPassed c) (e : ℕ) (l : e < edgesIn (c .list)) where
   -- the point of the top is the place of the top
@@ -45,3 +49,11 @@ module _ {c : Call} (all : AllPassed c) (e : ℕ) (l : e < edgesIn (c .list)) wh
 
 pub tops-marked : {c : Call} {marks : List ℕ} → AllPassed c → Marked (c .list) marks → TopsMarked (c .list) (edgesIn (c .list)) marks
 tops-marked {c} all M e l = M .mark e ∙ rw (lt-ltb e (edgesIn (c .list)) l) (ap bit (mark-is all e l ∙ sym (top-apart all e l)))
+
+-- the numbers that the checks leave are those of the places that the sweep asks for
+pub places-numbered : {s : List ℤ} {numbers : List ℕ} → Numbered s numbers → PlacesNumbered s (edgesIn s) numbers
+places-numbered {s} N = record {
+  number = λ p. placeNumber (N .words) (edgesIn s) (placeOn (p .film) (p .point));
+  tails = λ i l. tail-number N i l;
+  heads = λ i l. head-number N i l;
+}

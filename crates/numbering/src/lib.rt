@@ -9,7 +9,7 @@ ghost use lib.ListN.{length};
 ghost use Rattle.numbering.specs.OnSlices.{fitted, sweeps, sweepsOn};
 ghost use Rattle.numbering.specs.Outcome.{lent, leftAs};
 ghost use Rattle.numbering.specs.Promised.{Promised};
-ghost use Rattle.sweep.specs.Slices.{TopsMarked};
+ghost use Rattle.sweep.specs.Slices.{TopsMarked, PlacesNumbered};
 ghost use Rattle.sheet.specs.Amounts.{numbersPerEdge, journalNumbersPerEdge, mostEdges};
 
 // The most edges that a list holds.
@@ -56,7 +56,7 @@ pub fn number(
     }
 }
 
-// A list that passed its checks, with the marks that they left: the sweeps work in the journal's first numbers, and the rest of it is set to zero.
+// A list that passed its checks, with the marks and the numbers that they left: the sweeps work in the journal's first numbers, and the rest of it is set to zero.
 fn number_checked(
     edges: &[i32],
     apart: &[u8],
@@ -68,6 +68,7 @@ fn number_checked(
 ) -> Answer
     requires marks { ⌜ (length (now apart) ≡ mostEdges) × TopsMarked (now edges) (length (now edges) / numbersPerEdge) (now apart) ⌝ }
     requires lengths { ⌜ (length (now edges) / numbersPerEdge ≤ mostEdges) × (journalNumbersPerEdge * (length (now edges) / numbersPerEdge) ≤ length (now journal)) ⌝ }
+    requires numbers { ⌜ (length (now numbers) ≡ 2 * mostEdges) × PlacesNumbered (now edges) (length (now edges) / numbersPerEdge) (now numbers) ⌝ }
     ensures { λ r. ⌜ leftAs r (now (polygons .exit)) (now (sequences .exit)) (now (journal .exit)) (now (rows .exit)) ≡ sweepsOn (fitted (now (edges .entry)) (now (polygons .entry)) (now (sequences .entry)) (now (journal .entry)) (now (rows .entry))) ⌝ }
 {
     let n = edges.len() / Edge::NUMBERS;
@@ -97,6 +98,7 @@ fn sweep_both(
 ) -> Answer
     requires marks { ⌜ (length (now apart) ≡ mostEdges) × TopsMarked (now edges) (length (now edges) / numbersPerEdge) (now apart) ⌝ }
     requires lengths { ⌜ (length (now edges) / numbersPerEdge ≤ mostEdges) × (length (now journal) ≡ journalNumbersPerEdge * (length (now edges) / numbersPerEdge)) ⌝ }
+    requires numbers { ⌜ (length (now numbers) ≡ 2 * mostEdges) × PlacesNumbered (now edges) (length (now edges) / numbersPerEdge) (now numbers) ⌝ }
     ensures { λ r. ⌜ leftAs r (now (polygons .exit)) (now (sequences .exit)) (now (journal .exit)) (now (rows .exit)) ≡ sweeps (fitted (now (edges .entry)) (now (polygons .entry)) (now (sequences .entry)) (now (journal .entry)) (now (rows .entry))) ⌝ }
 {
     let n = edges.len() / Edge::NUMBERS;
