@@ -377,7 +377,7 @@ module _ {number : Place → ℕ} {index : List ℕ} {rows : List ℤ} {counts :
           let d : x ≡ side → ⊥ = λ e. b (refl, e) in
           let level : lookRow (movedIn rows r side p n) r .level ≡ lookRow rows r .level = ap (λ (z : Row Place). z .level) row in
           let slot : slotOf (lookRow (movedIn rows r side p n) r .level) x (number (tipOf (movedIn rows r side p n) r x)) ≡ slotOf (lookRow rows r .level) x (number (tipOf rows r x)) =
-              λ i. slotOf (level i) x (number (kept x d i .tip)) in
+          λ i. slotOf (level i) x (number (kept x d i .tip)) in
           let alive : live rows r x ≡ true = sym (λ i. row i .used && not (kept x d i .finished)) ∙ a in
           subst (λ (j : ℕ). Owns (getD index j 0) r) (sym slot) (I .owners long r l x b alive (subst (λ (j : ℕ). j < length index) slot h))
 
@@ -422,7 +422,7 @@ module _ {number : Place → ℕ} {index : List ℕ} {rows : List ℤ} {counts :
           (λ f.
           let level : lookRow (finishedIn rows r side) r .level ≡ lookRow rows r .level = ap (λ (z : Row Place). z .level) row in
           let slot : slotOf (lookRow (finishedIn rows r side) r .level) x (number (tipOf (finishedIn rows r side) r x)) ≡ slotOf (lookRow rows r .level) x (number (tipOf rows r x)) =
-              λ i. slotOf (level i) x (number (tip-kept x i)) in
+          λ i. slotOf (level i) x (number (tip-kept x i)) in
           let g : on x (lookRow (finishedIn rows r side) r .branch) .finished ≡ on x (lookRow rows r .branch) .finished = ap (λ (z : Row Place). on x (z .branch) .finished) row ∙ f in
           let alive : live rows r x ≡ true = sym (λ i. row i .used && not (g i)) ∙ a in
           let apart : but r x → ⊥ = λ c. ⊎-elim b (λ z. never x (z .1) a) (less r x c) in

@@ -21,10 +21,10 @@ returns c =
     let a = c .before .before .args in
     let has = hasTipIn (a .rows .now) (a .level) (a .side) (a .tip) (a .r) in
     let fails : (ltb (a .r) (a .peak) && has) ≡ false =
-        ⊎-elim
-        (λ h. rw (past-no-tip (a .rows .now) (a .level) (a .side) (a .tip) (a .r) (omega (arith, h, c .before .lower-of .ensures, c .if1 .taken))) (and-false (ltb (a .r) (a .peak))))
-        (λ h. rw (le-ltb (a .r) (a .peak) h))
-        (lt-or-le (a .r) (a .peak)) in
+    ⊎-elim
+    (λ h. rw (past-no-tip (a .rows .now) (a .level) (a .side) (a .tip) (a .r) (omega (arith, h, c .before .lower-of .ensures, c .if1 .taken))) (and-false (ltb (a .r) (a .peak))))
+    (λ h. rw (le-ltb (a .r) (a .peak) h))
+    (lt-or-le (a .r) (a .peak)) in
     rw fails
 
 returns-2 : tie.Need-returns-2
