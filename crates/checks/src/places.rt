@@ -4,8 +4,8 @@
 use crate::MOST_EDGES;
 use crate::corners;
 use crate::ends;
-use crate::ordering;
 use crate::numbers;
+use crate::ordering;
 use sheet::Check;
 use sheet::Edge;
 use sheet::Refusal;
