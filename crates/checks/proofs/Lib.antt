@@ -2,6 +2,7 @@
 pub mod EdgeFaults
 pub mod LeastEdge
 pub mod Words
+pub mod Guessing
 pub mod Visiting
 pub mod ByWords
 pub mod AtCorners

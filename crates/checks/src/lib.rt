@@ -5,6 +5,7 @@ mod ends;
 pub mod faults;
 pub mod lengths;
 mod numbers;
+mod ordering;
 pub mod places;
 
 use sheet::Check;

@@ -5,6 +5,7 @@ use crate::MOST_EDGES;
 use crate::corners;
 use crate::ends;
 use crate::numbers;
+use crate::ordering;
 use sheet::Check;
 use sheet::Edge;
 use sheet::Refusal;
@@ -119,7 +120,7 @@ fn first_at_fault(edges: &[i32], n: usize, words: &mut [u64]) -> AtFault
     ensures { λ r. ⌜ r ≡ firstAtFault (now (edges .entry)) ⌝ }
     ensures { λ _. ⌜ Ordered (now (edges .entry)) (now (words .exit)) n × Walks (now (words .exit)) (2 * n) ⌝ }
 {
-    ends::order(edges, words, n);
+    ordering::order(edges, words, n);
     walk(words, 2 * n, n)
 }
 
