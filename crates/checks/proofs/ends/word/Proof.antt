@@ -7,7 +7,7 @@ use Rattle.sheet.proofs.Ranks.{rank-small}
 use Rattle.checks.proofs.ends.word.Statement.{statement}
 use Rattle.checks.proofs.ends.word.Tie as tie
 
-small : (c : tie.After-rank) → c .rank .result < 4000004000001
+small : (c : tie.After-rank) → c .rank .result < 4398046511104
 small c = omega (arith, c .rank .ensures, rank-small (c .before .args .end) (c .before .pre .1))
 
 returns : tie.Need-returns
