@@ -1,151 +1,35 @@
--- `sweep::up::sweep_up` meets its contract. The loop's invariant: the slices, the progress and the last edge are the steps' sweep of the edges so far,
--- it is not ended, and the index is good; at the start there is no row to know of.
+-- `sweep::up::sweep_up` meets its contract: the index and the counts are lent as zeros, few of them or many.
 use borrow.Author.Needs.{needs}
 use native.Mathlib.Omega.{arith}
-use mathlib.Core.List.{List}
-use Prim.Native.Nat.{ℕ, _≤_, _<_, _-_, _+_, _*_}
-use lib.IntN.{ℤ}
-use mathlib.Core.Path.{_≡_, refl, sym, ap, _∙_}
-use mathlib.Core.Bool.{Bool, true, false}
-use lib.Dec.{eqb}
-use lib.ListN.{length, getD}
-use borrow.Author.Tests.{not-true, not-false}
-use Rattle.laws.specs.Counting.{bit}
-use Rattle.steps.specs.declared.Side.{Side}
-use Rattle.steps.specs.declared.Side.the-variants.{Rising, Falling}
-use Rattle.steps.specs.declared.End.the-variants.{Done}
-use Rattle.steps.specs.Rows.{LevelEdge}
-use Rattle.steps.specs.SweepUp as up
-use Rattle.steps.specs.SweepUp.{sweepUp, start}
-use Rattle.rows.specs.declared.Place.{Place}
-use Rattle.rows.specs.Index.{none, Indexed}
-use Rattle.rows.proofs.InUse.{in-use-none}
-use Rattle.rows.proofs.Indexing.{indexed-none}
-use Rattle.sweep.specs.declared.NamedEdge.{NamedEdge}
-use Rattle.sweep.specs.declared.Swept.{Swept}
-use Rattle.sweep.specs.Slices.{lentRoom, edgeOf, bottomNumber, progress, listEdges, PlacesNumbered, swept, isDone}
-use Rattle.sweep.proofs.Rooms.{is-done-is}
-use Rattle.sweep.proofs.Sweeping.{next-edge, sweep-stays, records-there}
+use mathlib.Core.Path.{refl}
 use Rattle.sweep.proofs.up.sweep_up.Statement.{statement}
 use Rattle.sweep.proofs.up.sweep_up.Tie as tie
 
-bit-back : (b : Bool) → eqb (bit b) 1 ≡ b
-bit-back true = refl
-bit-back false = refl
+sweep-list-requires : tie.Need-sweep-list-requires
+sweep-list-requires c κs =
+    let c0 = c .before .before .before .before .before .before .before in
+    (c0 .pre .0, (c0 .pre .1, (omega arith, refl)))
 
-abbrev Inv-loop : tie.InvT-loop
-Inv-loop edges n apart numbers journal₀ rows₀ index₀ counts₀ end₀ edge₀ i₀ journal rows index counts end edge i =
-    (i ≤ n)
-    × (length rows ≡ length rows₀)
-    × (length journal ≡ length journal₀)
-    × (length index ≡ 24576)
-    × (length counts ≡ 67)
-    × (end ≡ Done)
-    × ((P : PlacesNumbered edges n numbers) →
-    (swept rows journal (record { progress = progress counts end; edge = edge }) ≡ sweepUp (lentRoom rows₀ journal₀) (listEdges edges) (start 0 rows₀ journal₀) i)
-    × Indexed (P .number) index rows counts none)
+sweep-list-requires-2 : tie.Need-sweep-list-requires-2
+sweep-list-requires-2 c κs =
+    let c0 = c .before .before .before .before .before .before .before in
+    (c0 .pre .0, (c0 .pre .1, (omega arith, refl)))
 
-abbrev μ-loop : tie.MeasureT-loop
-μ-loop edges n apart numbers journal₀ rows₀ index₀ counts₀ end₀ edge₀ i₀ journal rows index counts end edge i = n - i
-
-loop-holds : tie.Need-loop-holds Inv-loop μ-loop
-unfolding sweepUp
-loop-holds c = (search needs, search needs, search needs, refl, refl, refl, λ P. (refl, indexed-none _ _ refl (in-use-none 67 _)))
-
--- a mark of 1 tells that the edge's top is apart
-list-edge-requires : tie.Need-list-edge-requires Inv-loop μ-loop
-list-edge-requires c κs =
-    let c4 = c .before in
-    let c3 = c4 .before in
-    let c0 = c3 .before .before .before in
-    let i = c3 .loop .i in
-    (omega (arith, c4 .loop-test .taken, c0 .pre .0 .0), rw (c0 .pre .0 .2 i (c4 .loop-test .taken)) (bit-back (listEdges (c0 .args .edges .now) i .apart)), omega (arith, c4 .loop-test .taken, c0 .pre .1 .0))
-
--- an edge of the list has the numbers of its places
-numbered : {s : List ℤ} {n : ℕ} {numbers : List ℕ} (P : PlacesNumbered s n numbers) (i : ℕ) → i < n → (e : NamedEdge) → edgeOf e ≡ listEdges s i → e .tails ≡ getD numbers (2 * i) 0 → e .heads ≡ getD numbers (2 * i + 1) 0 →
-    (side : Side) → bottomNumber side e ≡ P .number (up.bottom side (edgeOf e))
-numbered P i l e is tails heads Rising = tails ∙ P .tails i l ∙ ap (λ (z : LevelEdge Place). P .number (z .tail)) (sym is)
-numbered P i l e is tails heads Falling = heads ∙ P .heads i l ∙ ap (λ (z : LevelEdge Place). P .number (z .head)) (sym is)
-
--- the edge treated is the sweep's next step, and the index is good again
-treated : (c : tie.After-treat-first Inv-loop μ-loop) →
-    let t = c .treat-first in
-    let c3 = c .before .before .before .before .before .before .before .before in
-    let g = c3 .before .before .before .args in
-    (P : PlacesNumbered (g .edges .now) (g .n) (g .numbers .now)) →
-    (swept (t .last .0) (t .last .1 .0) (record { progress = progress (t .last .1 .1 .1 .0) (t .result); edge = c3 .loop .i })
-    ≡ sweepUp (lentRoom (g .rows .now) (g .journal .now)) (listEdges (g .edges .now)) (start 0 (g .rows .now) (g .journal .now)) (c3 .loop .i + 1))
-    × (t .result ≡ Done → Indexed (P .number) (t .last .1 .1 .0) (t .last .0) (t .last .1 .1 .1 .0) none)
-treated c P =
-    let c6 = c .before .before .before .before .before in
-    let c4 = c6 .before .before in
-    let c3 = c4 .before in
-    let c0 = c3 .before .before .before in
-    let g = c0 .args in
-    let l = c3 .loop in
-    let e = c6 .list-edge in
-    let v = l .inv .6 P in
-    let h = c .treat-first .ensures .told (P .number) (v .1) (λ long. numbered P (l .i) (c4 .loop-test .taken) (e .result) (e .ensures .0) (e .ensures .2) (e .ensures .3)) in
-    let done : isDone (l .end) ≡ true = ap isDone (l .inv .5) in (
-      next-edge (g .rows .now) (g .journal .now) (listEdges (g .edges .now)) (l .i) {w = record { progress = progress (l .counts) (l .end); edge = l .edge }} (v .0) done (l .inv .1) (l .inv .2)
-          (e .result) (e .ensures .0) {p = progress (c .treat-first .last .1 .1 .1 .0) (c .treat-first .result)} (rw (l .inv .5) (h .0)),
-      h .1,
-    )
-
-treat-first-requires : tie.Need-treat-first-requires Inv-loop μ-loop
-treat-first-requires c κs =
-    let c6 = c .before .before .before .before in
-    let c3 = c6 .before .before .before in
-    (omega (arith, c6 .list-edge .ensures .1), omega (arith, c3 .loop .inv .4))
-
-returns : tie.Need-returns Inv-loop μ-loop
+returns : tie.Need-returns
 returns c =
-    let c17 = c .before in
-    let c16 = c17 .before in
-    let c11 = c16 .before .before .before .before .before in
-    let c4 = c11 .before .before .before .before .before .before .before in
-    let c3 = c4 .before in
-    let c0 = c3 .before .before .before in
-    let g = c0 .args in
-    let l = c3 .loop in
-    let e =
-    sweep-stays (g .rows .now) (g .journal .now) (listEdges (g .edges .now)) (g .n) (l .i + 1) {w = record { progress = progress (c11 .treat-first .last .1 .1 .1 .0) (c11 .treat-first .result); edge = l .i }} (omega (arith, c4 .loop-test .taken)) (treated c11 (c0 .pre .1 .1) .0)
-    (sym (c16 .is-done .ensures) ∙ not-true _ (c17 .if1 .taken)) in
-    rw (c .swept .ensures) (e, records-there (g .rows .now) (g .journal .now) (listEdges (g .edges .now)) (g .n) (record { progress = progress (c11 .treat-first .last .1 .1 .1 .0) (c11 .treat-first .result); edge = l .i }) e)
+    let c8 = c .before .before .before .before in
+    c8 .sweep-list .ensures
 
-loop-again : tie.Need-loop-again Inv-loop μ-loop
-loop-again c =
-    let c16 = c .before in
-    let c11 = c16 .before .before .before .before .before in
-    let c4 = c11 .before .before .before .before .before .before .before in
-    let c3 = c4 .before in
-    let c0 = c3 .before .before .before in
-    let v = c3 .loop .inv in
-    let k = c11 .treat-first .kept in
-    let done = sym (c16 .is-done .ensures) ∙ not-false _ (c .if1 .left) in
-    let is = is-done-is (c11 .treat-first .result) done in
-    (omega (arith, c4 .loop-test .taken), omega (arith, v .1, k), omega (arith, v .2, k), omega (arith, v .3, k), omega (arith, v .4, k), is, λ P. (treated c11 P .0, treated c11 P .1 is))
-
-returns-2 : tie.Need-returns-2 Inv-loop μ-loop
+returns-2 : tie.Need-returns-2
 returns-2 c =
-    let c4 = c .before in
-    let c3 = c4 .before in
-    let c0 = c3 .before .before .before in
-    let g = c0 .args in
-    let l = c3 .loop in
-    let w : Swept = record { progress = progress (l .counts) (l .end); edge = l .edge } in
-    let z : l .i ≡ g .n = omega (arith, l .inv .0, c4 .loop-test .left) in
-    let e = rw z at (l .inv .6 (c0 .pre .1 .1) .0) in
-    rw (c .swept2 .ensures) (e, records-there (g .rows .now) (g .journal .now) (listEdges (g .edges .now)) (g .n) w e)
+    let c8 = c .before .before .before .before in
+    c8 .sweep-list2 .ensures
 
 pub sweep-up-spec : {M : Type 1} → statement M
 sweep-up-spec =
     tie.close
     (tie.spec
-    Inv-loop
-    μ-loop
-    loop-holds
-    (search needs) list-edge-requires (search needs) (search needs) treat-first-requires
-    (search needs) (search needs) (search needs) (search needs) (search needs) (search needs) returns
-    (search needs) (search needs) loop-again
-    (search needs) (search needs) (search needs) (search needs) (search needs) returns-2)
+    (search needs) (search needs) sweep-list-requires
+    (search needs) (search needs) returns
+    (search needs) (search needs) sweep-list-requires-2
+    (search needs) (search needs) returns-2)
