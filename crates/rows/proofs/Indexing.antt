@@ -26,13 +26,13 @@ use Rattle.steps.specs.Plain.{withBranch, finishedBranch}
 use Rattle.rows.specs.declared.Place.{Place}
 use Rattle.rows.specs.Layout.{filmPlaces, filmIn, onFilm, HasRow, lookRow, hasTipIn, openedIn, movedIn, finishedIn, freedIn}
 use Rattle.rows.specs.Free.{peakIn, InUse}
-use Rattle.rows.specs.Index.{crowded, sideNumber, upper, slotOf, tipAt, tipOf, live, ownerIn, numberedIn, liveIn, rowOwner, crowds, markedIn, lookAt, told, Owns, Tips, none, only, allOn, Long, Indexed}
+use Rattle.rows.specs.Index.{crowded, sideStep, upper, slotOf, tipAt, tipOf, live, ownerIn, numberedIn, liveIn, rowOwner, crowds, markedIn, lookAt, told, Owns, Tips, none, only, allOn, Long, Indexed}
 use Rattle.rows.proofs.Searching.{found, nothing, tip-parts}
 use Rattle.rows.proofs.Writing.{OnlyRow, other-row, opened-only, opened-here, moved-only, moved-here, finished-only, finished-here, freed-only, freed-here}
 
 -- the two sides differ, and two sides are one or not
 rising-falling : Rising ≡ Falling → ⊥
-rising-falling e = let z : _≡_ {A = ℕ} 0 1 = ap sideNumber e in omega arith
+rising-falling e = let z : _≡_ {A = ℕ} 0 1 = ap sideStep e in omega arith
 
 same-side : (x y : Side) → (x ≡ y) ⊎ (x ≡ y → ⊥)
 same-side Rising Rising = inl refl
@@ -45,7 +45,7 @@ not-other Rising e = rising-falling e
 not-other Falling e = rising-falling (sym e)
 
 -- a slot is one of the first four of its six, and its side is told by its place among them
-low-slot : (level : ℕ) (side : Side) → (upper level + sideNumber side < 4) × ((upper level ≡ 0) ⊎ (upper level ≡ 2))
+low-slot : (level : ℕ) (side : Side) → (upper level + sideStep side < 4) × ((upper level ≡ 0) ⊎ (upper level ≡ 2))
 low-slot zero Rising = (omega arith, inl refl)
 low-slot zero Falling = (omega arith, inl refl)
 low-slot (suc level) Rising = (omega arith, inr refl)

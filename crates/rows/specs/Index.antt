@@ -22,20 +22,20 @@ use Rattle.rows.specs.Free.{peakIn, InUse}
 abbrev pub crowded : ℕ
 crowded = 65535
 
-abbrev pub sideNumber : Side → ℕ
-sideNumber Rising = 0
-sideNumber Falling = 1
+abbrev pub sideStep : Side → ℕ
+sideStep Rising = 0
+sideStep Falling = 1
 
 abbrev pub upper : ℕ → ℕ
 upper zero = 0
 upper (suc level) = 2
 
 unfoldable pub slotOf : ℕ → Side → ℕ → ℕ
-slotOf level side k = 6 * k + upper level + sideNumber side
+slotOf level side k = 6 * k + upper level + sideStep side
 
 -- where the number of the place of a row's tip stands
 unfoldable pub tipAt : ℕ → Side → ℕ
-tipAt r side = 6 * r + 4 + sideNumber side
+tipAt r side = 6 * r + 4 + sideStep side
 
 abbrev pub tipOf : List ℤ → ℕ → Side → Place
 tipOf rows r side = on side (lookRow rows r .branch) .tip

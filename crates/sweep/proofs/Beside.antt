@@ -24,7 +24,7 @@ use Rattle.rows.proofs.InUse.{length-taken, taken-keeps, in-use-counted, in-use
 use Rattle.rows.proofs.Indexing.{numbered-size, indexed-opened, indexed-moved, indexed-marked, indexed-counted}
 use Rattle.sweep.proofs.Rooms.{not-done}
 use Rattle.sweep.specs.declared.NamedEdge.{NamedEdge}
-use Rattle.sweep.specs.Slices.{edgeOf, bottomNumber, progress}
+use Rattle.sweep.specs.Slices.{edgeOf, numberBelow, progress}
 use Rattle.sweep.specs.Treated.{Recorded, Opened, Attached}
 
 -- one record more
@@ -107,7 +107,7 @@ module _ (a : List ℤ) (index c : List ℕ) (side : Side) (e : NamedEdge) (r : 
   top-film Rising = refl
   top-film Falling = refl
 
-  pub attached-moved : (n v : ℕ) {a₁ : List ℤ} {index₁ : List ℕ} → a₁ ≡ movedIn a r side (up.top side (edgeOf e)) n → index₁ ≡ numberedIn index r side (bottomNumber (otherSide side) e) →
+  pub attached-moved : (n v : ℕ) {a₁ : List ℤ} {index₁ : List ℕ} → a₁ ≡ movedIn a r side (up.top side (edgeOf e)) n → index₁ ≡ numberedIn index r side (numberBelow (otherSide side) e) →
       Attached a index c side e r Done a₁ index₁ (set c 0 v)
   attached-moved n v ea ei = record {
     peak = getD-set-other c 0 1 v 0 (λ h. omega arith);

@@ -28,7 +28,7 @@ use Rattle.rows.proofs.Searching.{tip-parts, tip-has-row}
 use Rattle.rows.proofs.Writing.{opened-here}
 use Rattle.rows.proofs.Indexing.{but-more, found-by-number, told-at}
 use Rattle.sweep.specs.declared.NamedEdge.{NamedEdge}
-use Rattle.sweep.specs.Slices.{lentRoom, state, edgeOf, bottomNumber, progress}
+use Rattle.sweep.specs.Slices.{lentRoom, state, edgeOf, numberBelow, progress}
 use Rattle.sweep.specs.Treated.{Numbered, Opened, Chained}
 use Rattle.sweep.proofs.Attaching.{opened}
 use Rattle.sweep.proofs.Ways.{chain-found, chain-none, chain-opened}
@@ -42,7 +42,7 @@ bottom-film Falling e = refl
 film-is : (a : List ℤ) (r : ℕ) (side : Side) → filmIn a r ≡ tipOf a r side .film
 film-is a r side = sym (ap (λ (z : Place). z .film) (tip-is a r side))
 
-module _ (a : List ℤ) (index c : List ℕ) (level : ℕ) (side : Side) (e : NamedEdge) {p : Place} {k : ℕ} {f : Found} (bottom-is : p ≡ up.bottom side (edgeOf e)) (number-is : k ≡ bottomNumber side e)
+module _ (a : List ℤ) (index c : List ℕ) (level : ℕ) (side : Side) (e : NamedEdge) {p : Place} {k : ℕ} {f : Found} (bottom-is : p ≡ up.bottom side (edgeOf e)) (number-is : k ≡ numberBelow side e)
     (find-is : f ≡ told (ownerIn index (peakIn c) (slotOf level side k)) a (peakIn c) level side p) where
   searched : (number : Place → ℕ) → Indexed number index a c none → Numbered number index c e → f ≡ foundBelow (hasTipIn a level side p) (peakIn c)
   searched number I N = find-is ∙ found-by-number level side p (but-more I (λ q x h. absurd h)) k (λ long. number-is ∙ N long side ∙ ap number (sym bottom-is))

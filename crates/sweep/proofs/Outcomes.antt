@@ -28,7 +28,7 @@ use Rattle.rows.proofs.Writing.{finished-only, freed-only}
 use Rattle.rows.proofs.InUse.{given-back-keeps, in-use-finished, in-use-freed}
 use Rattle.rows.proofs.Indexing.{but-more, indexed-marked, indexed-finished, indexed-freed}
 use Rattle.sweep.specs.declared.NamedEdge.{NamedEdge}
-use Rattle.sweep.specs.Slices.{lentRoom, state, edgeOf, bottomNumber, progress, isDone}
+use Rattle.sweep.specs.Slices.{lentRoom, state, edgeOf, numberBelow, progress, isDone}
 use Rattle.sweep.specs.Treated.{Numbered, Recorded, Slices, slices, stateOf, Good, Chained, Attached, Met, Treated}
 use Rattle.sweep.proofs.Rooms.{same-room, not-done, is-done-is}
 use Rattle.sweep.proofs.Beside.{recorded-peak, recorded-good}
@@ -140,7 +140,7 @@ module _ (a b : List ℤ) (index c : List ℕ) (left level : ℕ) (e : NamedEdge
     }
 
     -- step 4
-    module _ (done : isDone t ≡ true) {other : Side} {top : Place} {k : ℕ} {f : Found} (other-is : other ≡ otherSide side) (top-is : top ≡ up.bottom other (edgeOf e)) (number-is : k ≡ bottomNumber other e)
+    module _ (done : isDone t ≡ true) {other : Side} {top : Place} {k : ℕ} {f : Found} (other-is : other ≡ otherSide side) (top-is : top ≡ up.bottom other (edgeOf e)) (number-is : k ≡ numberBelow other e)
         (M : Met a₂ index₂ c₂ level other top k (e .apart) f) where
       numbered : (number : Place → ℕ) → Numbered number index c e → Long index₂ c₂ → k ≡ number top
       numbered number N long = number-is ∙ N (long-before long) other ∙ ap number (sym top-is)

@@ -43,9 +43,9 @@ abbrev pub edgeOf : NamedEdge → LevelEdge Place
 edgeOf e = record { name = e .name; tail = onFilm (e .film) (e .tail); head = onFilm (e .film) (e .head); length = record { rising = e .rising; falling = e .falling }; apart = e .apart }
 
 -- the number of an edge's bottom, by side
-abbrev pub bottomNumber : Side → NamedEdge → ℕ
-bottomNumber Rising e = e .tails
-bottomNumber Falling e = e .heads
+abbrev pub numberBelow : Side → NamedEdge → ℕ
+numberBelow Rising e = e .tails
+numberBelow Falling e = e .heads
 
 -- The counts beside the slices: number 0 is how many records are written, number 1 the peak; the others are of the crate rows. How far the sweep has come by them.
 abbrev pub progress : List ℕ → End → Progress

@@ -21,11 +21,11 @@ use Rattle.rows.specs.Layout.{filmIn, lookRow, hasTipIn}
 use Rattle.rows.specs.Free.{peakIn}
 use Rattle.rows.specs.Index.{tipOf, Tips, none, only, allOn, Long, Indexed}
 use Rattle.sweep.specs.declared.NamedEdge.{NamedEdge}
-use Rattle.sweep.specs.Slices.{lentRoom, state, edgeOf, progress, bottomNumber}
+use Rattle.sweep.specs.Slices.{lentRoom, state, edgeOf, progress, numberBelow}
 
 -- an edge has the numbers of its places, where the index is long enough for the rows
 abbrev pub Numbered : (Place → ℕ) → List ℕ → List ℕ → NamedEdge → Type 0
-Numbered number index counts e = Long index counts → (side : Side) → bottomNumber side e ≡ number (up.bottom side (edgeOf e))
+Numbered number index counts e = Long index counts → (side : Side) → numberBelow side e ≡ number (up.bottom side (edgeOf e))
 
 -- the number of records may have changed, and no other count
 abbrev pub Recorded : List ℕ → List ℕ → Type 0

@@ -13,7 +13,7 @@ ghost use Prim.Native.Nat.{_+_, _≤_};
 ghost use Rattle.steps.specs.Rows.{on};
 ghost use Rattle.steps.specs.SweepUp as up;
 ghost use Rattle.rows.specs.Layout.{filmPlaces};
-ghost use Rattle.sweep.specs.Slices.{edgeOf, bottomNumber, isDone};
+ghost use Rattle.sweep.specs.Slices.{edgeOf, numberBelow, isDone};
 
 // How far a sweep up has come: the records written, the peak, and how the last treatment ended.
 pub struct Progress {
@@ -87,7 +87,7 @@ impl NamedEdge {
 
     // The number of that place.
     fn bottom_number(self, side: Side) -> u16
-        ensures { λ n. ⌜ n ≡ bottomNumber side self ⌝ }
+        ensures { λ n. ⌜ n ≡ numberBelow side self ⌝ }
     {
         match side {
             Side::Rising => self.tails,

@@ -25,7 +25,7 @@ use Rattle.rows.proofs.InUse.{in-use-none}
 use Rattle.rows.proofs.Indexing.{indexed-none}
 use Rattle.sweep.specs.declared.NamedEdge.{NamedEdge}
 use Rattle.sweep.specs.declared.Swept.{Swept}
-use Rattle.sweep.specs.Slices.{lentRoom, edgeOf, bottomNumber, progress, listEdges, PlacesNumbered, swept, isDone}
+use Rattle.sweep.specs.Slices.{lentRoom, edgeOf, numberBelow, progress, listEdges, PlacesNumbered, swept, isDone}
 use Rattle.sweep.proofs.Rooms.{is-done-is}
 use Rattle.sweep.proofs.Sweeping.{next-edge, sweep-stays, records-there}
 use Rattle.sweep.proofs.up.sweep_list.Statement.{statement}
@@ -86,7 +86,7 @@ list-edge-requires c κs =
 
 -- an edge of the list has the numbers of its places
 numbered : {s : List ℤ} {n : ℕ} {numbers : List ℕ} (P : PlacesNumbered s n numbers) (i : ℕ) → i < n → (e : NamedEdge) → edgeOf e ≡ listEdges s i → e .tails ≡ getD numbers (2 * i) 0 → e .heads ≡ getD numbers (2 * i + 1) 0 →
-    (side : Side) → bottomNumber side e ≡ P .number (up.bottom side (edgeOf e))
+    (side : Side) → numberBelow side e ≡ P .number (up.bottom side (edgeOf e))
 numbered P i l e is tails heads Rising = tails ∙ P .tails i l ∙ ap (λ (z : LevelEdge Place). P .number (z .tail)) (sym is)
 numbered P i l e is tails heads Falling = heads ∙ P .heads i l ∙ ap (λ (z : LevelEdge Place). P .number (z .head)) (sym is)
 
