@@ -26,6 +26,9 @@ ghost use Rattle.checks.specs.Numbers.{noNumbers, NumbersAfter};
 // Each end of a list, two for an edge.
 const MOST_ENDS: usize = 2 * MOST_EDGES;
 
+// For so few edges room for few words does.
+const FEW: usize = 32;
+
 // The least edge of a kind that an earlier edge has at the same place, and the least with an end at a place where the arriving and the leaving edges
 // differ in number. Where there is none, the number of edges.
 pub struct AtFault {
@@ -124,25 +127,38 @@ fn first_at_fault(edges: &[i32], n: usize, words: &mut [u64]) -> AtFault
     walk(words, 2 * n, n)
 }
 
-// 8 over the whole list, then 9, then 17, of a list that passes 2, 5, 16 and 6. Leaves a mark for each edge whose top is apart and, where all pass, the number
-// of each end's place. The words take 64 KB of stack, 8,192 of 8 bytes, and while they are put in order the counts of a digit take 4 KB more.
+// 8 over the whole list, then 9, then 17, of a list that passes 2, 5, 16 and 6. Leaves a mark for each edge whose top is apart, and, where all are passed, the number of each
+// end's place. The words take 64 KB of stack, 8,192 of 8 bytes, and while they are put in order a digit's counts 4 KB more; of few edges they take 512 bytes.
 pub fn check(edges: &[i32], apart: &mut [u8], numbers: &mut [u16]) -> Check
     requires { ⌜ EndsFit (now edges) (edgesIn (now edges)) × (now apart ≡ noMarks) × (now numbers ≡ noNumbers) ⌝ }
     ensures { λ r. ⌜ (r ≡ placesChecked (now (edges .entry))) × MarksAfter (now (edges .entry)) r (now (apart .exit)) × NumbersAfter (now (edges .entry)) r (now (numbers .exit)) ⌝ }
 {
-    let n = edges.len() / Edge::NUMBERS;
+    if edges.len() / Edge::NUMBERS <= FEW {
+        let mut few = [0u64; 2 * FEW];
+        return check_ends(edges, &mut few, apart, numbers);
+    }
     let mut words = [0u64; MOST_ENDS];
-    let found = first_at_fault(edges, n, &mut words);
+    check_ends(edges, &mut words, apart, numbers)
+}
+
+// The same with room for the words lent.
+fn check_ends(edges: &[i32], words: &mut [u64], apart: &mut [u8], numbers: &mut [u16]) -> Check
+    requires room { ⌜ 2 * edgesIn (now edges) ≤ length (now words) ⌝ }
+    requires list { ⌜ EndsFit (now edges) (edgesIn (now edges)) × (now apart ≡ noMarks) × (now numbers ≡ noNumbers) ⌝ }
+    ensures { λ r. ⌜ (r ≡ placesChecked (now (edges .entry))) × MarksAfter (now (edges .entry)) r (now (apart .exit)) × NumbersAfter (now (edges .entry)) r (now (numbers .exit)) ⌝ }
+{
+    let n = edges.len() / Edge::NUMBERS;
+    let found = first_at_fault(edges, n, words);
     if found.repeated < n {
         return Check::Refused(Refusal::Repeated(found.repeated as u32));
     }
     if found.uneven < n {
         return Check::Refused(Refusal::Uneven(found.uneven as u32));
     }
-    let tangled = corners::walk(edges, n, &words, apart);
+    let tangled = corners::walk(edges, n, words, apart);
     if tangled < n {
         return Check::Refused(Refusal::NotAlternating(tangled as u32));
     }
-    numbers::number_places(&words, n, numbers);
+    numbers::number_places(words, n, numbers);
     Check::Passed
 }
