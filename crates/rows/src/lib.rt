@@ -1,11 +1,10 @@
 // Rows in the lent slice. Only this crate knows how a row lies in its eight numbers: specs/Layout.antt says it, and the functions here are proved
-// equal to what the steps do with a table of rows laid out so. Searches stop at the peak, above which no row was ever open; where a search for a tip
-// starts, its mark says.
+// equal to what the steps do with a table of rows laid out so. Searches stop at the peak, above which no row was ever open. What spares them looks at
+// rows lies beside the slice: an index of tips, and notes of the rows in use.
 pub mod free;
 pub mod index;
 
 use sheet::Point;
-use steps::Found;
 use steps::Side;
 ghost use mathlib.Core.Path.{_≡_};
 ghost use Prim.Native.Nat.{_+_, _<_};

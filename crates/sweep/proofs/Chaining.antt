@@ -2,10 +2,9 @@
 use mathlib.Core.Path.{_≡_, refl, sym, ap, _∙_}
 use mathlib.Core.Bool.{true}
 use mathlib.Core.List.{List}
-use Prim.Native.Nat.{ℕ, _+_, _≤_, _<_, max}
+use Prim.Native.Nat.{ℕ, _≤_, _<_}
 use native.Mathlib.Omega.{arith}
 use lib.IntN.{ℤ}
-use lib.ListN.{getD}
 use Rattle.sheet.proofs.Signed.{sameZ-true}
 use Rattle.sheet.specs.Points.{sameZ, isSame}
 use Rattle.laws.proofs.Deciding.{both-true}
@@ -14,21 +13,21 @@ use Rattle.steps.specs.declared.Side.the-variants.{Rising, Falling}
 use Rattle.steps.specs.declared.Found.{Found}
 use Rattle.steps.specs.declared.Found.the-variants.{At, Nothing}
 use Rattle.steps.specs.declared.End.the-variants.{Done}
-use Rattle.steps.specs.Rows.{otherSide, on, Row, lowestFree}
+use Rattle.steps.specs.Rows.{on, Row, lowestFree}
 use Rattle.steps.specs.SweepUp as up
 use Rattle.steps.specs.SweepUp.{foundBelow}
 use Rattle.steps.specs.Swept.{rowsIn}
 use Rattle.steps.specs.Plain.{newRow}
 use Rattle.rows.specs.declared.Place.{Place}
-use Rattle.rows.specs.Layout.{filmPlaces, filmIn, HasRow, lookRow, hasTipIn, openedIn}
+use Rattle.rows.specs.Layout.{filmPlaces, filmIn, lookRow, hasTipIn, openedIn}
 use Rattle.rows.specs.Free.{peakIn, InUse}
-use Rattle.rows.specs.Index.{slotOf, ownerIn, told, tipOf, none, Long, Indexed}
+use Rattle.rows.specs.Index.{slotOf, ownerIn, told, tipOf, none, Indexed}
 use Rattle.rows.proofs.Looking.{tip-is}
 use Rattle.rows.proofs.Searching.{tip-parts, tip-has-row}
 use Rattle.rows.proofs.Writing.{opened-here}
 use Rattle.rows.proofs.Indexing.{but-more, found-by-number, told-at}
 use Rattle.sweep.specs.declared.NamedEdge.{NamedEdge}
-use Rattle.sweep.specs.Slices.{lentRoom, state, edgeOf, numberBelow, progress}
+use Rattle.sweep.specs.Slices.{edgeOf, numberBelow, progress}
 use Rattle.sweep.specs.Treated.{Numbered, Opened, Chained}
 use Rattle.sweep.proofs.Attaching.{opened}
 use Rattle.sweep.proofs.Ways.{chain-found, chain-none, chain-opened}

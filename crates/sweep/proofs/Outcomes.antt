@@ -1,10 +1,10 @@
 -- The ways out of a treatment, whose parts are done by functions of their own: what they leave together is what the steps leave, and the index and the counts are good again. One law
 -- for each way, for an edge of any level.
 use mathlib.Core.Path.{_≡_, refl, sym, ap, _∙_}
-use mathlib.Core.Bool.{Bool, true, false}
-use mathlib.Core.Logic.{_⊎_, inl, inr}
+use mathlib.Core.Bool.{true, false}
+use mathlib.Core.Logic.{inl, inr}
 use mathlib.Core.List.{List}
-use Prim.Native.Nat.{ℕ, _+_, _-_, _/_, _≤_, _<_}
+use Prim.Native.Nat.{ℕ, _+_, _-_, _≤_, _<_}
 use native.Mathlib.Omega.{arith}
 use lib.IntN.{ℤ}
 use lib.ListN.{length, getD}
@@ -22,7 +22,7 @@ use Rattle.steps.specs.Swept.{rowsIn}
 use Rattle.rows.specs.declared.Place.{Place}
 use Rattle.rows.specs.Layout.{filmPlaces, HasRow, filmIn, lookRow, hasTipIn, finishedIn, freedIn}
 use Rattle.rows.specs.Free.{peakIn, givenBackIn}
-use Rattle.rows.specs.Index.{tipAt, tipOf, markedIn, none, only, allOn, Long, Indexed}
+use Rattle.rows.specs.Index.{tipAt, tipOf, markedIn, none, only, Long, Indexed}
 use Rattle.rows.proofs.Searching.{tip-has-row}
 use Rattle.rows.proofs.Writing.{finished-only, freed-only}
 use Rattle.rows.proofs.InUse.{given-back-keeps, in-use-finished, in-use-freed}

@@ -22,7 +22,7 @@ use Rattle.steps.specs.Rows.{otherSide, LevelEdge, lowestFree}
 use Rattle.steps.specs.SweepUp as up
 use Rattle.steps.specs.SweepUp.{State, foundBelow, bothFinished}
 use Rattle.rows.specs.Layout as rows
-use Rattle.rows.specs.Layout.{filmPlaces, HasRow, lookRow, hasTipIn, finishedIn, freedIn}
+use Rattle.rows.specs.Layout.{filmPlaces, lookRow, hasTipIn, finishedIn, freedIn}
 use Rattle.steps.specs.Swept.{rowsIn}
 use Rattle.sweep.specs.declared.Progress.{Progress}
 use Rattle.sweep.specs.declared.NamedEdge.{NamedEdge}

@@ -1,6 +1,4 @@
 -- `rows::index::find` meets its contract. By what the slot tells.
-use mathlib.Core.Path.{sym, _∙_}
-use native.Mathlib.Omega.{arith}
 use borrow.Author.Needs.{needs}
 use Rattle.rows.specs.Index.{told}
 use Rattle.rows.proofs.Owners.{told-row}

@@ -1,6 +1,4 @@
 -- `rows::index::is_crowded` meets its contract. By what the slot told.
-use mathlib.Core.Path.{refl, sym, _∙_}
-use native.Mathlib.Omega.{arith}
 use borrow.Author.Needs.{needs}
 use borrow.Author.Tests.{eq-eqb, ne-eqb}
 use Rattle.rows.specs.Index.{crowds}

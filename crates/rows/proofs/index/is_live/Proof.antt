@@ -1,5 +1,4 @@
 -- `rows::index::is_live` meets its contract. Each way out says what the row lacks.
-use mathlib.Core.Path.{_≡_, sym, _∙_}
 use mathlib.Core.Bool.{true, false}
 use Prim.Native.Nat.{_*_}
 use native.Mathlib.Omega.{arith}
@@ -10,8 +9,6 @@ use mir.Val.{toZ, ofZ}
 use Rattle.steps.specs.Swept.{numbersPerRow}
 use borrow.Author.Needs.{needs}
 use Rattle.laws.proofs.Tests.{not-true, not-false}
-use Rattle.rows.specs.Layout.{lookRow}
-use Rattle.rows.specs.Index.{live, liveIn}
 use Rattle.rows.proofs.Searching.{past-free, row-free}
 use Rattle.rows.proofs.Owners.{free-dead, finished-dead, live-slot, first-above}
 use Rattle.rows.proofs.index.is_live.Statement.{statement}

@@ -1,5 +1,5 @@
 -- `rows::index::mark` meets its contract. By whether the index has the slot, and is crowded there.
-use mathlib.Core.Path.{sym, _∙_}
+use mathlib.Core.Path.{sym}
 use native.Mathlib.Omega.{arith}
 use borrow.Author.Needs.{needs}
 use lib.Seq.{set-out}

@@ -2,7 +2,6 @@
 use mathlib.Core.Path.{_≡_, refl}
 use Prim.Native.Nat.{ℕ, zero, suc}
 use native.Mathlib.Omega.{arith}
-use borrow.Author.Needs.{needs}
 use Rattle.rows.specs.Index.{upper}
 use Rattle.rows.proofs.index.upper.Statement.{statement}
 use Rattle.rows.proofs.index.upper.Tie as tie

@@ -1,15 +1,13 @@
 -- The three functions that pass rows up, which call each other in a round, meet their contracts: each way out by a law of Ways or Outcomes. The measure falls with the levels left, and
 -- along the round within a level.
 use Prim.Native.Nat.{ℕ, _+_, _-_, _*_, _<_}
-use mathlib.Core.Path.{_≡_, refl, sym, _∙_}
+use mathlib.Core.Path.{sym, _∙_}
 use native.Mathlib.Omega.{arith}
 use borrow.Author.Needs.{needs}
 use borrow.Fn.Kinds.{In}
 use borrow.Fn.PlainCycle.{Measures, is, falls, and}
 use Rattle.laws.proofs.Tests.{not-true, not-false}
-use Rattle.steps.specs.declared.End.the-variants.{Done}
 use Rattle.rows.proofs.Searching.{tip-has-row}
-use Rattle.sweep.specs.Slices.{progress}
 use Rattle.sweep.proofs.Outcomes.{closed, none-left, no-row, stopped, unmet, met-both, from-raised}
 use Rattle.sweep.proofs.Passing.{passed-not, passed, both-ends, one-row, both-rows}
 use Rattle.sweep.proofs.treating.pass_both.Reads as pass-both

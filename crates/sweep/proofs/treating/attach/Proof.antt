@@ -1,11 +1,10 @@
 -- `sweep::treating::attach` meets its contract. Three ways out, each by its law of Attaching; only the last one moves a tip, and sets its number.
 use borrow.Author.Needs.{needs}
 use native.Mathlib.Omega.{arith}
-use mathlib.Core.Path.{_≡_, refl, sym, ap, _∙_}
 use Prim.Native.Nat.{_+_}
 use lib.ListN.{getD}
 use Rattle.sheet.proofs.Signed.{read-back}
-use Rattle.steps.specs.declared.End.the-variants.{Done, Overrun}
+use Rattle.steps.specs.declared.End.the-variants.{Done}
 use Rattle.steps.specs.Rows.{otherSide, on}
 use Rattle.steps.specs.SweepUp.{signed}
 use Rattle.sweep.specs.Slices.{edgeOf, progress}

@@ -1,17 +1,6 @@
 -- `sweep::treating::chain_row` meets its contract. The row is found, or the lowest free one is opened, or there is none.
 use borrow.Author.Needs.{needs}
 use native.Mathlib.Omega.{arith}
-use mathlib.Core.Path.{_≡_, refl, sym, ap, _∙_}
-use Prim.Native.Nat.{ℕ, _+_, max}
-use lib.ListN.{getD}
-use Rattle.steps.specs.declared.Side.{Side}
-use Rattle.steps.specs.declared.End.the-variants.{Done}
-use Rattle.steps.specs.Rows.{otherSide, Row}
-use Rattle.rows.specs.declared.Place.{Place}
-use Rattle.rows.specs.Free.{peakIn}
-use Rattle.rows.specs.Index.{slotOf, ownerIn}
-use Rattle.rows.proofs.Indexing.{but-more, found-by-number, told-at}
-use Rattle.sweep.specs.Slices.{edgeOf, progress}
 use Rattle.sweep.proofs.Chaining.{chained-found, chained-none, chained-opened}
 use Rattle.sweep.proofs.treating.chain_row.Statement.{statement}
 use Rattle.sweep.proofs.treating.chain_row.Tie as tie

@@ -1,7 +1,7 @@
 -- `sweep::treating::meeting` meets its contract. Where the place is apart nothing is looked for.
 use borrow.Author.Needs.{needs}
 use native.Mathlib.Omega.{arith}
-use mathlib.Core.Path.{_≡_, refl, sym, _∙_}
+use mathlib.Core.Path.{_≡_, sym, _∙_}
 use Prim.Native.Nat.{ℕ}
 use Rattle.steps.specs.SweepUp.{pickMeeting}
 use Rattle.rows.specs.Free.{peakIn}

@@ -1,8 +1,7 @@
 -- `sweep::treating::open_lowest` meets its contract: the row opened, and the law of Beside for what lies beside it.
 use borrow.Author.Needs.{needs}
 use native.Mathlib.Omega.{arith}
-use mathlib.Core.Path.{_≡_, _∙_}
-use Prim.Native.Nat.{ℕ, _+_, max}
+use mathlib.Core.Path.{_≡_}
 use lib.ListN.{getD, length-set}
 use Rattle.rows.specs.Free.{peakIn, takenIn}
 use Rattle.rows.proofs.InUse.{taken-keeps}

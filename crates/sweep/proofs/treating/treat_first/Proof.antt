@@ -1,10 +1,10 @@
 -- `sweep::treating::treat_first` meets its contract: each way out by its law of Outcomes.
-use mathlib.Core.Path.{_≡_, sym, _∙_}
+use mathlib.Core.Path.{sym, _∙_}
 use native.Mathlib.Omega.{arith}
 use borrow.Author.Needs.{needs}
 use Rattle.laws.proofs.Tests.{not-true, not-false}
 use Rattle.rows.proofs.Searching.{tip-has-row}
-use Rattle.sweep.proofs.Outcomes.{closed, no-row, stopped, unmet, met-both, has-met, has-row}
+use Rattle.sweep.proofs.Outcomes.{closed, no-row, stopped, unmet, met-both}
 use Rattle.sweep.proofs.treating.treat_first.Statement.{statement}
 use Rattle.sweep.proofs.treating.treat_first.Tie as tie
 
