@@ -88,16 +88,16 @@ module _ (p q : Point) (hp : inRange p ≡ true) (hq : inRange q ≡ true) where
       bq : shift (q .x) ≤ 2000000
       bq = shift-within (q .x) (x-within q hq)
 
-      by-x : shift (p .y) ≡ shift (q .y) → ltb (shift (p .x)) (shift (q .x)) ≡ ltb (shift (p .y) * 2000001 + shift (p .x)) (shift (q .y) * 2000001 + shift (q .x))
-      by-x e = ltb-same (shift (p .x)) (shift (q .x)) (shift (p .y) * 2000001 + shift (p .x)) (shift (q .y) * 2000001 + shift (q .x)) (λ h. omega arith) (λ h. omega arith)
+      by-x : shift (p .y) ≡ shift (q .y) → ltb (shift (p .x)) (shift (q .x)) ≡ ltb (shift (p .y) * 2097152 + shift (p .x)) (shift (q .y) * 2097152 + shift (q .x))
+      by-x e = ltb-same (shift (p .x)) (shift (q .x)) (shift (p .y) * 2097152 + shift (p .x)) (shift (q .y) * 2097152 + shift (q .x)) (λ h. omega arith) (λ h. omega arith)
 
-      by-y : (shift (p .y) ≡ shift (q .y) → ⊥) → ltb (shift (p .y)) (shift (q .y)) ≡ ltb (shift (p .y) * 2000001 + shift (p .x)) (shift (q .y) * 2000001 + shift (q .x))
-      by-y n = ltb-same (shift (p .y)) (shift (q .y)) (shift (p .y) * 2000001 + shift (p .x)) (shift (q .y) * 2000001 + shift (q .x)) (λ h. omega (arith, bp, bq)) (λ h. omega (arith, n, bp, bq))
+      by-y : (shift (p .y) ≡ shift (q .y) → ⊥) → ltb (shift (p .y)) (shift (q .y)) ≡ ltb (shift (p .y) * 2097152 + shift (p .x)) (shift (q .y) * 2097152 + shift (q .x))
+      by-y n = ltb-same (shift (p .y)) (shift (q .y)) (shift (p .y) * 2097152 + shift (p .x)) (shift (q .y) * 2097152 + shift (q .x)) (λ h. omega (arith, bp, bq)) (λ h. omega (arith, n, bp, bq))
 
-      level : shift (p .y) ≡ shift (q .y) → cond (sameZ (p .y) (q .y)) (ltZ (p .x) (q .x)) (ltZ (p .y) (q .y)) ≡ ltb (shift (p .y) * 2000001 + shift (p .x)) (shift (q .y) * 2000001 + shift (q .x))
+      level : shift (p .y) ≡ shift (q .y) → cond (sameZ (p .y) (q .y)) (ltZ (p .x) (q .x)) (ltZ (p .y) (q .y)) ≡ ltb (shift (p .y) * 2097152 + shift (p .x)) (shift (q .y) * 2097152 + shift (q .x))
       level e = rw (sameZ-yes (p .y) (q .y) (shift-inj (p .y) (q .y) (y-within p hp) (y-within q hq) e), shift-lt (p .x) (q .x) (x-within p hp) (x-within q hq)) (by-x e)
 
-      uneven : (shift (p .y) ≡ shift (q .y) → ⊥) → cond (sameZ (p .y) (q .y)) (ltZ (p .x) (q .x)) (ltZ (p .y) (q .y)) ≡ ltb (shift (p .y) * 2000001 + shift (p .x)) (shift (q .y) * 2000001 + shift (q .x))
+      uneven : (shift (p .y) ≡ shift (q .y) → ⊥) → cond (sameZ (p .y) (q .y)) (ltZ (p .x) (q .x)) (ltZ (p .y) (q .y)) ≡ ltb (shift (p .y) * 2097152 + shift (p .x)) (shift (q .y) * 2097152 + shift (q .x))
       uneven n = rw (sameZ-no (p .y) (q .y) (λ e. n (ap shift e)), shift-lt (p .y) (q .y) (y-within p hp) (y-within q hq)) (by-y n)
 
   -- sameness of ranks is sameness of points
@@ -112,6 +112,6 @@ module _ (p q : Point) (hp : inRange p ≡ true) (hq : inRange q ≡ true) where
       no n = rw (ne-eqb _ _ n) (⊎-elim (λ t. absurd (n (ap rank (same-point p q t)))) (λ f. f) (true-or-false (sameZ (p .y) (q .y) && sameZ (p .x) (q .x))))
 
 -- a rank in the range has 42 bits
-pub rank-small : (p : Point) → inRange p ≡ true → rank p < 4000004000001
+pub rank-small : (p : Point) → inRange p ≡ true → rank p < 4398046511104
 unfolding rank
 rank-small p h = omega (arith, shift-within (p .x) (x-within p h), shift-within (p .y) (y-within p h))

@@ -12,7 +12,7 @@ shift (negsuc n) = 999999 - n
 
 -- y counts first, then x. In the range: a point below another has the smaller rank, and points of one rank are one (proofs/Ranks.antt).
 unfoldable pub rank : Point → ℕ
-rank p = shift (p .y) * 2000001 + shift (p .x)
+rank p = shift (p .y) * 2097152 + shift (p .x)
 
 -- 02 M-100: a place is a point with a film. The places of a point stand together, one for each film.
 unfoldable pub placeOn : ℤ → Point → ℕ

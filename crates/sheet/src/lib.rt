@@ -54,7 +54,7 @@ impl Point {
     {
         let y = shifted(self.y);
         let x = shifted(self.x);
-        (y as u64) * 2_000_001 + (x as u64)
+        (y as u64) * 2_097_152 + (x as u64)
     }
 }
 
