@@ -1,21 +1,22 @@
 -- The two searches stop at the peak or at the last row of the slice, whichever comes first. Past the slice every row looks free, so no tip is found
 -- there, and the first row past it is the lowest free one where all before it are in use.
 use mathlib.Core.Path.{_≡_, refl, ap}
-use mathlib.Core.Bool.{Bool, true, false, not, _&&_}
+use mathlib.Core.Bool.{Bool, true, false, not, cond, _&&_}
 use mathlib.Core.Logic.{⊎-elim}
 use mathlib.Core.List.{List}
 use Prim.Native.Nat.{ℕ, _+_, _*_, _/_, _≤_, _<_, min}
 use native.Mathlib.Omega.{arith}
-use lib.Dec.{eqb}
+use lib.Dec.{eqb, ltb}
 use lib.IntN.{ℤ, pos, negsuc}
 use lib.ListN.{length, getD}
 use lib.Signed.{leZ, ltZ, mag}
 use mir.Syntax.{w32}
 use mir.Val.{toZ, ofZ}
-use borrow.Author.Tests.{lt-ltb, le-ltb, le-leb, lt-leb, leb-true, leb-false, eqb-true}
+use borrow.Author.Tests.{lt-ltb, le-ltb, le-leb, lt-leb, leb-true, leb-false, eqb-true, ne-eqb}
 use Rattle.laws.proofs.Bits.{read-back}
 use Rattle.laws.proofs.Deciding.{lt-or-le, not-both, both-true}
-use Rattle.laws.proofs.First.{first-is}
+use Rattle.laws.specs.Counting.{first}
+use Rattle.laws.proofs.First.{first-is, first-least}
 use Rattle.laws.proofs.Tests.{not-not}
 use Rattle.steps.specs.declared.Side.{Side}
 use Rattle.steps.specs.declared.Found.the-variants.{At, Nothing}
@@ -26,6 +27,11 @@ use Rattle.steps.proofs.Alone.{Alone}
 use Rattle.rows.specs.declared.Place.{Place}
 use Rattle.rows.specs.Layout.{filmPlaces, HasRow, lookRow, hasTipIn, rowSlice}
 use Rattle.steps.specs.Swept.{numbersPerRow}
+use Rattle.rows.specs.Index.{foundBy}
+
+-- what a search's number tells
+pub found-row : (r : ℕ) → (r ≡ 18446744073709551615 → ⊥) → foundBy r ≡ At r
+found-row r d = rw (ne-eqb r 18446744073709551615 d)
 
 -- a search that stops at m, past which no number below n passes
 module _ (p : ℕ → Bool) (n m : ℕ) (l : m ≤ n) where
@@ -39,6 +45,15 @@ module _ (p : ℕ → Bool) (n m : ℕ) (l : m ≤ n) where
     where
       least : (k : ℕ) → k < n → p k ≡ false
       least k h = ⊎-elim (λ a. below k a) (λ a. past k a h) (lt-or-le k m)
+
+  -- what is found below m is found below n
+  pub found-sooner : (r : ℕ) → foundBelow p m ≡ At r → At r ≡ foundBelow p n
+  unfolding foundBelow
+  found-sooner r e = let f = found-at p m r e in found r (f .0) (f .1) (by (ltb (first p m) m) refl e)
+    where
+      by : (b : Bool) → ltb (first p m) m ≡ b → cond b (At (first p m)) Nothing ≡ At r → (k : ℕ) → k < r → p k ≡ false
+      by false f h k l = let z : _≡_ {A = ℕ} 0 1 = cc in absurd (omega arith)
+      by true f h k l = let q : first p m ≡ r = cc in first-least p m k (omega (arith, l, q))
 
 module _ (s : List ℤ) where
   pub past-free : (r : ℕ) → length s < numbersPerRow * r + 8 → lookRow s r .used ≡ false

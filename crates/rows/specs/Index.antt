@@ -68,6 +68,10 @@ unfoldable pub markedIn : List ℤ → List ℕ → ℕ → Side → ℕ → ℕ
 markedIn rows index level side k r =
     set index (slotOf level side k) (cond (crowds rows index side (slotOf level side k) r (getD index (slotOf level side k) 0)) crowded (rowOwner r))
 
+-- what a search gives as a number: a row, or the largest number for nothing
+abbrev pub foundBy : ℕ → Found
+foundBy r = cond (eqb r 18446744073709551615) Nothing (At r)
+
 -- what a search finds by what a slot tells: nothing, the row that it tells where that has the tip, or, in a crowded slot, the first row below the peak that has it
 unfoldable pub lookAt : List ℤ → ℕ → ℕ → Side → Place → ℕ → Found
 lookAt rows peak level side p r = cond (ltb r peak && hasTipIn rows level side p r) (At r) Nothing

@@ -5,7 +5,6 @@ use crate::Place;
 use crate::branch_at;
 use crate::has_tip;
 use crate::level_in;
-use steps::Found;
 use steps::Side;
 ghost use mathlib.Core.Path.{_≡_};
 ghost use Prim.Native.Nat.{ℕ, _≤_, _<_};
@@ -13,7 +12,7 @@ ghost use lib.ListN.{length, getD};
 ghost use Rattle.steps.specs.SweepUp.{foundBelow};
 ghost use Rattle.rows.specs.Layout.{HasRow, hasTipIn};
 ghost use Rattle.rows.specs.Free.{peakIn};
-ghost use Rattle.rows.specs.Index.{upper, slotOf, tipAt, ownerIn, numberedIn, liveIn, rowOwner, crowds, markedIn, lookAt, told};
+ghost use Rattle.rows.specs.Index.{upper, slotOf, tipAt, ownerIn, numberedIn, liveIn, rowOwner, crowds, markedIn, foundBy, lookAt, told};
 
 // How many numbers the index has for a place and a row.
 pub const BLOCK: usize = 6;
@@ -24,6 +23,9 @@ const CROWDED: u16 = 65_535;
 // Where the peak stands among the counts.
 const PEAK: usize = 1;
 
+// What a search gives where no row has the tip.
+pub const NOTHING: usize = 18_446_744_073_709_551_615;
+
 // Tips of level 0 have slots of their own: most are of that level.
 fn upper(level: u32) -> usize
     ensures { λ n. ⌜ (n ≡ upper level) × (n ≤ 2) ⌝ }
@@ -32,7 +34,7 @@ fn upper(level: u32) -> usize
 }
 
 // The slot of a tip at the place with a number.
-fn slot(level: u32, side: Side, number: u16) -> usize
+pub fn slot(level: u32, side: Side, number: u16) -> usize
     ensures { λ i. ⌜ i ≡ slotOf level side number ⌝ }
 {
     let first = BLOCK * (number as usize) + upper(level);
@@ -76,20 +78,28 @@ pub fn set_number(rows: &[i32], index: &mut [u16], r: usize, side: Side, number:
     }
 }
 
-// The first row below the peak with a tip, every row looked at.
-fn scan(rows: &[i32], peak: usize, level: u32, side: Side, tip: Place) -> Found
+// The first row below the peak with a tip, every row looked at: those of the lower half, then the others. A function that calls itself stays one of its own
+// when it is compiled, so that the search by a slot, which rarely needs it, is short enough to go where it is called.
+fn scan(rows: &[i32], peak: usize, level: u32, side: Side, tip: Place) -> usize
     requires { ⌜ level < 2147483647 ⌝ }
-    ensures { λ f. ⌜ f ≡ foundBelow (hasTipIn (now (rows .entry)) level side tip) peak ⌝ }
+    ensures { λ r. ⌜ foundBy r ≡ foundBelow (hasTipIn (now (rows .entry)) level side tip) peak ⌝ }
 {
     let n = laws::lower_of(peak, rows.len() / NUMBERS);
-    let mut r: usize = 0;
+    if n == 0 {
+        return NOTHING;
+    }
+    let low = scan(rows, n / 2, level, side, tip);
+    if low != NOTHING {
+        return low;
+    }
+    let mut r = n / 2;
     while r < n {
         if has_tip(rows, r, level, side, tip) {
-            return Found::At(r);
+            return r;
         }
         r += 1;
     }
-    Found::Nothing
+    NOTHING
 }
 
 // What a slot tells.
@@ -106,20 +116,20 @@ fn owner(index: &[u16], peak: usize, i: usize) -> u16
 }
 
 // A row that a slot tells, where it has the tip and lies below the peak.
-fn look_at(rows: &[i32], peak: usize, r: usize, level: u32, side: Side, tip: Place) -> Found
+fn look_at(rows: &[i32], peak: usize, r: usize, level: u32, side: Side, tip: Place) -> usize
     requires { ⌜ level < 2147483647 ⌝ }
-    ensures { λ f. ⌜ f ≡ lookAt (now (rows .entry)) peak level side tip r ⌝ }
+    ensures { λ f. ⌜ foundBy f ≡ lookAt (now (rows .entry)) peak level side tip r ⌝ }
 {
     if laws::lower_of(peak, rows.len() / NUMBERS) <= r {
-        return Found::Nothing;
+        return NOTHING;
     }
     if has_tip(rows, r, level, side, tip) {
-        return Found::At(r);
+        return r;
     }
-    Found::Nothing
+    NOTHING
 }
 
-// The first row below the peak with a tip at a place, by the number of the place.
+// The first row below the peak with a tip, by its slot.
 pub fn find(
     rows: &[i32],
     index: &[u16],
@@ -127,15 +137,15 @@ pub fn find(
     level: u32,
     side: Side,
     tip: Place,
-    number: u16,
-) -> Found
+    i: usize,
+) -> usize
     requires { ⌜ (level < 2147483647) × (1 < length (now counts)) ⌝ }
-    ensures { λ f. ⌜ f ≡ told (ownerIn (now (index .entry)) (peakIn (now (counts .entry))) (slotOf level side number)) (now (rows .entry)) (peakIn (now (counts .entry))) level side tip ⌝ }
+    ensures { λ f. ⌜ foundBy f ≡ told (ownerIn (now (index .entry)) (peakIn (now (counts .entry))) i) (now (rows .entry)) (peakIn (now (counts .entry))) level side tip ⌝ }
 {
     let peak = counts[PEAK] as usize;
-    let o = owner(index, peak, slot(level, side, number));
+    let o = owner(index, peak, i);
     if o == 0 {
-        return Found::Nothing;
+        return NOTHING;
     }
     if o == CROWDED {
         return scan(rows, peak, level, side, tip);

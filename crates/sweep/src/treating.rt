@@ -92,28 +92,29 @@ fn open_lowest(
     counts[PEAK] = higher_of(counts[PEAK], (r + 1) as u64);
 }
 
-// Step 1: the row of an edge's chain, found or opened. As many as there are rows where none is free.
+// Step 1: the row of an edge's chain, whose bottom is the tip with the number, found or opened. As many as there are rows where none is free.
 fn chain_row(
     rows: &mut [i32],
     index: &mut [u16],
     counts: &mut [u64],
     level: u32,
     side: Side,
-    e: NamedEdge,
+    tip: Place,
+    number: u16,
 ) -> usize
     requires { ⌜ (level < 2147483647) × (3 ≤ length (now counts)) ⌝ }
-    ensures { λ r. ⌜ Chained (now (rows .entry)) (now (index .entry)) (now (counts .entry)) level side e r (now (rows .exit)) (now (index .exit)) (now (counts .exit)) ⌝ }
+    ensures { λ r. ⌜ ((e : NamedEdge) → tip ≡ up.bottom side (edgeOf e) → number ≡ numberBelow side e → Chained (now (rows .entry)) (now (index .entry)) (now (counts .entry)) level side e r (now (rows .exit)) (now (index .exit)) (now (counts .exit))) ⌝ }
 {
-    let bottom = e.bottom(side);
-    let number = e.bottom_number(side);
-    let Found::At(r) = index::find(rows, index, counts, level, side, bottom, number) else {
-        let free = free::lowest_free(rows, counts);
-        if free < rows::rows_in(rows) {
-            open_lowest(rows, index, counts, free, level, side, bottom, number);
-        }
-        return free;
-    };
-    r
+    let slot = index::slot(level, side, number);
+    let r = index::find(rows, index, counts, level, side, tip, slot);
+    if r != index::NOTHING {
+        return r;
+    }
+    let free = free::lowest_free(rows, counts);
+    if free < rows::rows_in(rows) {
+        open_lowest(rows, index, counts, free, level, side, tip, number);
+    }
+    free
 }
 
 // Steps 2 and 3: the record, and the tip moved to the edge's top. The tip is not marked yet: it may be finished at once.
@@ -178,24 +179,23 @@ fn as_edge(rows: &[i32], index: &[u16], r: usize) -> NamedEdge
     }
 }
 
-// Step 4's search: the row whose branch on the side has its tip at the place; none where the place is apart.
+// Step 4's search at level 0: the row whose branch on the side has its tip at the place; none where the place is apart.
 fn meeting(
     rows: &[i32],
     index: &[u16],
     counts: &[u64],
-    level: u32,
     side: Side,
     tip: Place,
     number: u16,
     apart: bool,
-) -> Found
-    requires { ⌜ (level < 2147483647) × (3 ≤ length (now counts)) ⌝ }
-    ensures { λ f. ⌜ Met (now (rows .entry)) (now (index .entry)) (now (counts .entry)) level side tip number apart f ⌝ }
+) -> usize
+    requires { ⌜ 3 ≤ length (now counts) ⌝ }
+    ensures { λ f. ⌜ Met (now (rows .entry)) (now (index .entry)) (now (counts .entry)) 0 side tip number apart (foundBy f) ⌝ }
 {
     if apart {
-        return Found::Nothing;
+        return index::NOTHING;
     }
-    index::find(rows, index, counts, level, side, tip, number)
+    index::find(rows, index, counts, 0, side, tip, index::slot(0, side, number))
 }
 
 // An edge of the list. Equal ends close an outline; any other edge goes into the row found, or a free one. As `raise` has it, but for level 0: most edges are of that
@@ -215,7 +215,8 @@ pub fn treat_first(
         return close(journal, counts, 0, e);
     }
     let side = e.side();
-    let r = chain_row(rows, index, counts, 0, side, e);
+    let bottom = e.bottom(side);
+    let r = chain_row(rows, index, counts, 0, side, bottom, e.bottom_number(side));
     if rows::rows_in(rows) <= r {
         return End::NoFreeRow;
     }
@@ -226,10 +227,11 @@ pub fn treat_first(
     let other = side.other();
     let top = e.bottom(other);
     let number = e.bottom_number(other);
-    let Found::At(q) = meeting(rows, index, counts, 0, other, top, number, e.apart) else {
+    let q = meeting(rows, index, counts, other, top, number, e.apart);
+    if q == index::NOTHING {
         index::mark(rows, index, 0, side, number, r);
         return End::Done;
-    };
+    }
     rows::finish(rows, q, other);
     rows::finish(rows, r, side);
     pass_both(rows, journal, index, counts, 0, LEVELS, q, r)
@@ -304,7 +306,8 @@ fn raise(
         return End::Overrun;
     }
     let side = e.side();
-    let row = chain_row(rows, index, counts, level, side, e);
+    let bottom = e.bottom(side);
+    let row = chain_row(rows, index, counts, level, side, bottom, e.bottom_number(side));
     if rows::rows_in(rows) <= row {
         return End::NoFreeRow;
     }
@@ -315,10 +318,12 @@ fn raise(
     let other = side.other();
     let top = e.bottom(other);
     let number = e.bottom_number(other);
-    let Found::At(q) = meeting(rows, index, counts, level, other, top, number, e.apart) else {
+    let slot = index::slot(level, other, number);
+    let q = index::find(rows, index, counts, level, other, top, slot);
+    if q == index::NOTHING {
         index::mark(rows, index, level, side, number, row);
         return End::Done;
-    };
+    }
     rows::finish(rows, q, other);
     rows::finish(rows, row, side);
     pass_both(rows, journal, index, counts, level, left, q, row)

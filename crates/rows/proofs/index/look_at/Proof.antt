@@ -10,7 +10,7 @@ use Rattle.laws.proofs.Deciding.{lt-or-le}
 use Rattle.laws.proofs.Tests.{and-false}
 use Rattle.rows.specs.Layout.{hasTipIn}
 use Rattle.rows.specs.Index.{lookAt}
-use Rattle.rows.proofs.Searching.{past-no-tip}
+use Rattle.rows.proofs.Searching.{found-row, past-no-tip}
 use Rattle.rows.proofs.index.look_at.Statement.{statement}
 use Rattle.rows.proofs.index.look_at.Tie as tie
 
@@ -30,6 +30,7 @@ returns-2 : tie.Need-returns-2
 unfolding lookAt
 returns-2 c =
     let a = c .before .before .before .before .args in
+    found-row (a .r) (λ e. omega (arith, e, c .before .before .before .lower-of .ensures, c .before .before .if1 .left, c .before .before .before .before .fits .peak .fits)) ∙
     rw (lt-ltb (a .r) (a .peak) (omega (arith, c .before .before .before .lower-of .ensures, c .before .before .if1 .left)), sym (c .before .has-tip .ensures) ∙ c .if2 .taken)
 
 returns-3 : tie.Need-returns-3
