@@ -41,10 +41,10 @@ bottom-film Falling e = refl
 film-is : (a : List ℤ) (r : ℕ) (side : Side) → filmIn a r ≡ tipOf a r side .film
 film-is a r side = sym (ap (λ (z : Place). z .film) (tip-is a r side))
 
-module _ (a : List ℤ) (index c : List ℕ) (level : ℕ) (side : Side) (e : NamedEdge) {p : Place} {k : ℕ} {f : Found} (bottom-is : p ≡ up.bottom side (edgeOf e)) (number-is : k ≡ numberBelow side e)
-    (find-is : f ≡ told (ownerIn index (peakIn c) (slotOf level side k)) a (peakIn c) level side p) where
+module _ (a : List ℤ) (index c : List ℕ) (level : ℕ) (side : Side) (e : NamedEdge) {p : Place} {k i : ℕ} {f : Found} (bottom-is : p ≡ up.bottom side (edgeOf e)) (number-is : k ≡ numberBelow side e)
+    (slot-is : i ≡ slotOf level side k) (find-is : f ≡ told (ownerIn index (peakIn c) i) a (peakIn c) level side p) where
   searched : (number : Place → ℕ) → Indexed number index a c none → Numbered number index c e → f ≡ foundBelow (hasTipIn a level side p) (peakIn c)
-  searched number I N = find-is ∙ found-by-number level side p (but-more I (λ q x h. absurd h)) k (λ long. number-is ∙ N long side ∙ ap number (sym bottom-is))
+  searched number I N = rw slot-is at find-is ∙ found-by-number level side p (but-more I (λ q x h. absurd h)) k (λ long. number-is ∙ N long side ∙ ap number (sym bottom-is))
 
   pub chained-found : {r : ℕ} → f ≡ At r → Chained a index c level side e r a index c
   unfolding filmPlaces
@@ -57,7 +57,7 @@ module _ (a : List ℤ) (index c : List ℕ) (level : ℕ) (side : Side) (e : Na
   }
     where
       there : (hasTipIn a level side p r ≡ true) × (r < peakIn c)
-      there = told-at a level side p (peakIn c) r (ownerIn index (peakIn c) (slotOf level side k)) (sym find-is ∙ found)
+      there = told-at a level side p (peakIn c) r (ownerIn index (peakIn c) i) (sym find-is ∙ found)
 
       same : filmPlaces .same (tipOf a r side) p ≡ true
       same = tip-parts a level side p r (there .0) .1

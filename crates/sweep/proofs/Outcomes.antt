@@ -1,7 +1,7 @@
 -- The ways out of a treatment, whose parts are done by functions of their own: what they leave together is what the steps leave, and the index and the counts are good again. One law
 -- for each way, for an edge of any level.
 use mathlib.Core.Path.{_≡_, refl, sym, ap, _∙_}
-use mathlib.Core.Bool.{true, false}
+use mathlib.Core.Bool.{Bool, true, false}
 use mathlib.Core.Logic.{inl, inr}
 use mathlib.Core.List.{List}
 use Prim.Native.Nat.{ℕ, _+_, _-_, _≤_, _<_}
@@ -15,18 +15,18 @@ use Rattle.steps.specs.declared.Found.{Found}
 use Rattle.steps.specs.declared.Found.the-variants.{At, Nothing}
 use Rattle.steps.specs.declared.End.{End}
 use Rattle.steps.specs.declared.End.the-variants.{Done, NoFreeRow, Overrun}
-use Rattle.steps.specs.Rows.{otherSide, LevelEdge}
+use Rattle.steps.specs.Rows.{otherSide, LevelEdge, Row}
 use Rattle.steps.specs.SweepUp as up
 use Rattle.steps.specs.SweepUp.{State}
 use Rattle.steps.specs.Swept.{rowsIn}
 use Rattle.rows.specs.declared.Place.{Place}
 use Rattle.rows.specs.Layout.{filmPlaces, HasRow, filmIn, lookRow, hasTipIn, finishedIn, freedIn}
 use Rattle.rows.specs.Free.{peakIn, givenBackIn}
-use Rattle.rows.specs.Index.{tipAt, tipOf, markedIn, none, only, Long, Indexed}
+use Rattle.rows.specs.Index.{slotOf, tipAt, tipOf, ownerIn, markedIn, told, none, only, Long, Indexed}
 use Rattle.rows.proofs.Searching.{tip-has-row}
 use Rattle.rows.proofs.Writing.{finished-only, freed-only}
 use Rattle.rows.proofs.InUse.{given-back-keeps, in-use-finished, in-use-freed}
-use Rattle.rows.proofs.Indexing.{but-more, indexed-marked, indexed-finished, indexed-freed}
+use Rattle.rows.proofs.Indexing.{but-more, found-by-number, told-at, indexed-marked, indexed-finished, indexed-freed}
 use Rattle.sweep.specs.declared.NamedEdge.{NamedEdge}
 use Rattle.sweep.specs.Slices.{lentRoom, state, edgeOf, numberBelow, progress, isDone}
 use Rattle.sweep.specs.Treated.{Numbered, Recorded, Slices, slices, stateOf, Good, Chained, Attached, Met, Treated}
@@ -89,6 +89,20 @@ module _ (a b : List ℤ) (index c : List ℕ) (r : ℕ) (has : HasRow a r) (e :
   from-raised left level T = treated-from (slices a₁ b index c₁) T (omega (arith, peak-same))
       (λ number G below. (rw freed (indexed-freed r has G peak-same (rw given-back (in-use-freed (G .in-use) r))), numbered-edge number G below))
       (raised a b left level (progress c Done) r e edge-is freed (rw freed (freed-only a r .kept)) same-progress)
+
+-- which has no place that is apart
+pub raised-not-apart : (r : ℕ) (row : Row Place) (e : NamedEdge) → edgeOf e ≡ up.asEdge r row → e .apart ≡ false
+unfolding up.asEdge
+raised-not-apart r row e edge-is = ap (λ (z : LevelEdge Place). z .apart) edge-is
+
+-- step 4's search where the place is not apart
+pub met-found : (a : List ℤ) (index c : List ℕ) (level : ℕ) (side : Side) (p : Place) {k i : ℕ} {apart : Bool} {f : Found} → apart ≡ false → i ≡ slotOf level side k →
+    f ≡ told (ownerIn index (peakIn c) i) a (peakIn c) level side p → Met a index c level side p k apart f
+unfolding up.pickMeeting
+met-found a index c level side p {k} {i} not-apart slot-is find-is = record {
+  there = λ q e. told-at a level side p (peakIn c) q (ownerIn index (peakIn c) i) (sym find-is ∙ e);
+  found = λ number I place. rw not-apart (rw slot-is at find-is ∙ found-by-number level side p I k place);
+}
 
 -- an edge whose ends differ, with a level left, whose chain's row is r
 module _ (a b : List ℤ) (index c : List ℕ) (left level : ℕ) (e : NamedEdge) (side : Side) (r : ℕ) (differ : isSame (e .tail) (e .head) ≡ false) (some-left : 0 < left)

@@ -7,7 +7,6 @@ use rows::Place;
 use rows::free;
 use rows::index;
 use steps::End;
-use steps::Found;
 use steps::Side;
 ghost use mathlib.Core.Path.{_≡_};
 ghost use mathlib.Core.List.{List};
@@ -18,8 +17,8 @@ ghost use Rattle.steps.specs.SweepUp as up;
 ghost use Rattle.steps.specs.SweepUp.{levels};
 ghost use Rattle.rows.specs.Layout.{HasRow, lookRow, openedIn};
 ghost use Rattle.rows.specs.Free.{peakIn};
-ghost use Rattle.rows.specs.Index.{tipAt};
-ghost use Rattle.sweep.specs.Slices.{lentRoom, state, edgeOf, progress};
+ghost use Rattle.rows.specs.Index.{tipAt, foundBy};
+ghost use Rattle.sweep.specs.Slices.{lentRoom, state, edgeOf, progress, numberBelow};
 ghost use Rattle.sweep.specs.Treated.{Recorded, Opened, Chained, Attached, Met, Numbered, slices, Treated};
 
 // The largest length that a row holds.
@@ -195,7 +194,15 @@ fn meeting(
     if apart {
         return index::NOTHING;
     }
-    index::find(rows, index, counts, 0, side, tip, index::slot(0, side, number))
+    index::find(
+        rows,
+        index,
+        counts,
+        0,
+        side,
+        tip,
+        index::slot(0, side, number),
+    )
 }
 
 // An edge of the list. Equal ends close an outline; any other edge goes into the row found, or a free one. As `raise` has it, but for level 0: most edges are of that
@@ -307,7 +314,15 @@ fn raise(
     }
     let side = e.side();
     let bottom = e.bottom(side);
-    let row = chain_row(rows, index, counts, level, side, bottom, e.bottom_number(side));
+    let row = chain_row(
+        rows,
+        index,
+        counts,
+        level,
+        side,
+        bottom,
+        e.bottom_number(side),
+    );
     if rows::rows_in(rows) <= row {
         return End::NoFreeRow;
     }

@@ -1,14 +1,16 @@
 -- The three functions that pass rows up, which call each other in a round, meet their contracts: each way out by a law of Ways or Outcomes. The measure falls with the levels left, and
 -- along the round within a level.
 use Prim.Native.Nat.{ℕ, _+_, _-_, _*_, _<_}
-use mathlib.Core.Path.{sym, _∙_}
+use mathlib.Core.Path.{sym, ap, _∙_}
 use native.Mathlib.Omega.{arith}
 use borrow.Author.Needs.{needs}
 use borrow.Fn.Kinds.{In}
 use borrow.Fn.PlainCycle.{Measures, is, falls, and}
 use Rattle.laws.proofs.Tests.{not-true, not-false}
-use Rattle.rows.proofs.Searching.{tip-has-row}
-use Rattle.sweep.proofs.Outcomes.{closed, none-left, no-row, stopped, unmet, met-both, from-raised}
+use Rattle.rows.specs.Index.{foundBy}
+use Rattle.rows.proofs.Searching.{found-row, tip-has-row}
+use Rattle.rows.proofs.Indexing.{told-at}
+use Rattle.sweep.proofs.Outcomes.{closed, none-left, no-row, stopped, unmet, met-both, met-found, from-raised, raised-not-apart}
 use Rattle.sweep.proofs.Passing.{passed-not, passed, both-ends, one-row, both-rows}
 use Rattle.sweep.proofs.treating.pass_both.Reads as pass-both
 use Rattle.sweep.proofs.treating.pass_both.Kinds as pass-both-kinds
@@ -23,7 +25,9 @@ use Rattle.rows.proofs.both_finished.Reads as both-finished-reads
 use Rattle.rows.proofs.finish.Reads as finish-reads
 use Rattle.rows.proofs.free.give_back.Reads as give-back-reads
 use Rattle.rows.proofs.free_row.Reads as free-row-reads
+use Rattle.rows.proofs.index.find.Reads as find-reads
 use Rattle.rows.proofs.index.mark.Reads as mark-reads
+use Rattle.rows.proofs.index.slot.Reads as slot-reads
 use Rattle.rows.proofs.rows_in.Reads as rows-in-reads
 use Rattle.sheet.proofs.Point.same.Reads as same-reads
 use Rattle.steps.proofs.Side.other.Reads as other-reads
@@ -35,7 +39,6 @@ use Rattle.sweep.proofs.treating.as_edge.Reads as as-edge-reads
 use Rattle.sweep.proofs.treating.attach.Reads as attach-reads
 use Rattle.sweep.proofs.treating.chain_row.Reads as chain-row-reads
 use Rattle.sweep.proofs.treating.close.Reads as close-reads
-use Rattle.sweep.proofs.treating.meeting.Reads as meeting-reads
 use Rattle.sweep.proofs.treating.+pass_both+pass_up+raise.{statement}
 use Rattle.sweep.proofs.treating.+pass_both+pass_up+raise.Tie.{close}
 
@@ -96,6 +99,10 @@ raise-calls t = (
   close-reads.Learnt,
   side-reads.Asked,
   side-reads.Learnt,
+  bottom-reads.Asked,
+  bottom-reads.Learnt,
+  bottom-number-reads.Asked,
+  bottom-number-reads.Learnt,
   chain-row-reads.Asked,
   chain-row-reads.Learnt,
   rows-in-reads.Asked,
@@ -106,12 +113,10 @@ raise-calls t = (
   is-done-reads.Learnt,
   other-reads.Asked,
   other-reads.Learnt,
-  bottom-reads.Asked,
-  bottom-reads.Learnt,
-  bottom-number-reads.Asked,
-  bottom-number-reads.Learnt,
-  meeting-reads.Asked,
-  meeting-reads.Learnt,
+  slot-reads.Asked,
+  slot-reads.Learnt,
+  find-reads.Asked,
+  find-reads.Learnt,
   mark-reads.Asked,
   mark-reads.Learnt,
   finish-reads.Asked,
@@ -203,9 +208,11 @@ raise-returns-2 t c =
 
 raise-returns-3 : (t : ℕ) → raise-lts.Need-returns-3 (raise-calls t) (raise-at t) raise.Post
 raise-returns-3 t c =
-    let c28 = c .before in
-    let c21 = c28 .before .before .before .before .before .before .before in
-    let c17 = c21 .before .before .before .before in
+    let c30 = c .before in
+    let c23 = c30 .before .before .before .before .before .before .before in
+    let c22 = c23 .before in
+    let c18 = c22 .before .before .before .before in
+    let c17 = c18 .before in
     let c16 = c17 .before in
     let c15 = c16 .before in
     let c14 = c15 .before in
@@ -215,16 +222,18 @@ raise-returns-3 t c =
     let c0 = c5 .before .before .before .before .before in
     let g = c0 .args in
     from-raised (g .rows .now) (g .journal .now) (g .index .now) (g .counts .now) (g .r) (c0 .pre .1 .0) (c5 .as-edge .result) (c5 .as-edge .ensures .0 .0) (c5 .as-edge .ensures .1 .0) (c5 .as-edge .ensures .1 .1) (c7 .free-row .ensures) (c10 .give-back .ensures) (g .above - 1) (g .under + 1)
-    (no-row (c7 .free-row .last .0) (g .journal .now) (g .index .now) (c10 .give-back .last .0) (g .above - 1) (g .under + 1) (c5 .as-edge .result) (c17 .side .result) (c21 .chain-row .result) (sym (c14 .same .ensures) ∙ c15 .if1 .left) (omega (arith, c16 .if2 .left)) (c17 .side .ensures) (c21 .chain-row .ensures) (omega (arith, c .if3 .taken, c28 .rows-in .ensures, c21 .chain-row .kept)))
+    (no-row (c7 .free-row .last .0) (g .journal .now) (g .index .now) (c10 .give-back .last .0) (g .above - 1) (g .under + 1) (c5 .as-edge .result) (c17 .side .result) (c23 .chain-row .result) (sym (c14 .same .ensures) ∙ c15 .if1 .left) (omega (arith, c16 .if2 .left)) (c17 .side .ensures) (c23 .chain-row .ensures (c5 .as-edge .result) (c18 .bottom .ensures) (c22 .bottom-number .ensures)) (omega (arith, c .if3 .taken, c30 .rows-in .ensures, c23 .chain-row .kept)))
 
 raise-returns-4 : (t : ℕ) → raise-lts.Need-returns-4 (raise-calls t) (raise-at t) raise.Post
 raise-returns-4 t c =
-    let c41 = c .before in
-    let c34 = c41 .before .before .before .before .before .before .before in
-    let c29 = c34 .before .before .before .before .before in
-    let c28 = c29 .before in
-    let c21 = c28 .before .before .before .before .before .before .before in
-    let c17 = c21 .before .before .before .before in
+    let c43 = c .before in
+    let c36 = c43 .before .before .before .before .before .before .before in
+    let c31 = c36 .before .before .before .before .before in
+    let c30 = c31 .before in
+    let c23 = c30 .before .before .before .before .before .before .before in
+    let c22 = c23 .before in
+    let c18 = c22 .before .before .before .before in
+    let c17 = c18 .before in
     let c16 = c17 .before in
     let c15 = c16 .before in
     let c14 = c15 .before in
@@ -234,23 +243,27 @@ raise-returns-4 t c =
     let c0 = c5 .before .before .before .before .before in
     let g = c0 .args in
     from-raised (g .rows .now) (g .journal .now) (g .index .now) (g .counts .now) (g .r) (c0 .pre .1 .0) (c5 .as-edge .result) (c5 .as-edge .ensures .0 .0) (c5 .as-edge .ensures .1 .0) (c5 .as-edge .ensures .1 .1) (c7 .free-row .ensures) (c10 .give-back .ensures) (g .above - 1) (g .under + 1)
-    (stopped (c7 .free-row .last .0) (g .journal .now) (g .index .now) (c10 .give-back .last .0) (g .above - 1) (g .under + 1) (c5 .as-edge .result) (c17 .side .result) (c21 .chain-row .result) (sym (c14 .same .ensures) ∙ c15 .if1 .left) (omega (arith, c16 .if2 .left)) (c17 .side .ensures) (c21 .chain-row .ensures) (omega (arith, c29 .if3 .left, c28 .rows-in .ensures, c21 .chain-row .kept)) (c21 .chain-row .kept .0) (c21 .chain-row .kept .1 .0) (c34 .attach .ensures .0) (c34 .attach .ensures .1) (c34 .attach .kept .0) (c34 .attach .kept .1 .0) (c34 .attach .kept .1 .1 .0) (sym (c41 .is-done .ensures) ∙ not-true _ (c .if4 .taken)))
+    (stopped (c7 .free-row .last .0) (g .journal .now) (g .index .now) (c10 .give-back .last .0) (g .above - 1) (g .under + 1) (c5 .as-edge .result) (c17 .side .result) (c23 .chain-row .result) (sym (c14 .same .ensures) ∙ c15 .if1 .left) (omega (arith, c16 .if2 .left)) (c17 .side .ensures) (c23 .chain-row .ensures (c5 .as-edge .result) (c18 .bottom .ensures) (c22 .bottom-number .ensures))
+    (omega (arith, c31 .if3 .left, c30 .rows-in .ensures, c23 .chain-row .kept)) (c23 .chain-row .kept .0) (c23 .chain-row .kept .1 .0) (c36 .attach .ensures .0) (c36 .attach .ensures .1) (c36 .attach .kept .0) (c36 .attach .kept .1 .0) (c36 .attach .kept .1 .1 .0) (sym (c43 .is-done .ensures) ∙ not-true _ (c .if4 .taken)))
 
 raise-returns-5 : (t : ℕ) → raise-lts.Need-returns-5 (raise-calls t) (raise-at t) raise.Post
 raise-returns-5 t c =
-    let c54 = c .before .before in
-    let c51 = c54 .before .before .before in
-    let c49 = c51 .before .before in
-    let c45 = c49 .before .before .before .before in
+    let c56 = c .before .before in
+    let c53 = c56 .before .before .before in
+    let c52 = c53 .before in
+    let c48 = c52 .before .before .before .before in
+    let c47 = c48 .before in
+    let c46 = c47 .before in
+    let c45 = c46 .before in
     let c44 = c45 .before in
     let c43 = c44 .before in
-    let c42 = c43 .before in
-    let c41 = c42 .before in
-    let c34 = c41 .before .before .before .before .before .before .before in
-    let c29 = c34 .before .before .before .before .before in
-    let c28 = c29 .before in
-    let c21 = c28 .before .before .before .before .before .before .before in
-    let c17 = c21 .before .before .before .before in
+    let c36 = c43 .before .before .before .before .before .before .before in
+    let c31 = c36 .before .before .before .before .before in
+    let c30 = c31 .before in
+    let c23 = c30 .before .before .before .before .before .before .before in
+    let c22 = c23 .before in
+    let c18 = c22 .before .before .before .before in
+    let c17 = c18 .before in
     let c16 = c17 .before in
     let c15 = c16 .before in
     let c14 = c15 .before in
@@ -260,25 +273,31 @@ raise-returns-5 t c =
     let c0 = c5 .before .before .before .before .before in
     let g = c0 .args in
     from-raised (g .rows .now) (g .journal .now) (g .index .now) (g .counts .now) (g .r) (c0 .pre .1 .0) (c5 .as-edge .result) (c5 .as-edge .ensures .0 .0) (c5 .as-edge .ensures .1 .0) (c5 .as-edge .ensures .1 .1) (c7 .free-row .ensures) (c10 .give-back .ensures) (g .above - 1) (g .under + 1)
-    (unmet (c7 .free-row .last .0) (g .journal .now) (g .index .now) (c10 .give-back .last .0) (g .above - 1) (g .under + 1) (c5 .as-edge .result) (c17 .side .result) (c21 .chain-row .result) (sym (c14 .same .ensures) ∙ c15 .if1 .left) (omega (arith, c16 .if2 .left)) (c17 .side .ensures) (c21 .chain-row .ensures) (omega (arith, c29 .if3 .left, c28 .rows-in .ensures, c21 .chain-row .kept)) (c21 .chain-row .kept .0) (c21 .chain-row .kept .1 .0) (c34 .attach .ensures .0) (c34 .attach .ensures .1) (c34 .attach .kept .0) (c34 .attach .kept .1 .0) (c34 .attach .kept .1 .1 .0) (sym (c41 .is-done .ensures) ∙ not-false _ (c42 .if4 .left)) (c43 .other .ensures) (c44 .bottom .ensures) (c45 .bottom-number .ensures) (c49 .meeting .ensures) (c51 .enum-told .given .1) (c54 .mark .ensures))
+    (unmet (c7 .free-row .last .0) (g .journal .now) (g .index .now) (c10 .give-back .last .0) (g .above - 1) (g .under + 1) (c5 .as-edge .result) (c17 .side .result) (c23 .chain-row .result) (sym (c14 .same .ensures) ∙ c15 .if1 .left) (omega (arith, c16 .if2 .left)) (c17 .side .ensures) (c23 .chain-row .ensures (c5 .as-edge .result) (c18 .bottom .ensures) (c22 .bottom-number .ensures))
+    (omega (arith, c31 .if3 .left, c30 .rows-in .ensures, c23 .chain-row .kept)) (c23 .chain-row .kept .0) (c23 .chain-row .kept .1 .0) (c36 .attach .ensures .0) (c36 .attach .ensures .1) (c36 .attach .kept .0) (c36 .attach .kept .1 .0) (c36 .attach .kept .1 .1 .0) (sym (c43 .is-done .ensures) ∙ not-false _ (c44 .if4 .left)) (c45 .other .ensures) (c46 .bottom2 .ensures) (c47 .bottom-number2 .ensures)
+    (met-found _ _ _ _ _ _ (raised-not-apart _ _ (c5 .as-edge .result) (c5 .as-edge .ensures .0 .0)) (c48 .slot .ensures) (c52 .find .ensures))
+    (ap foundBy (c53 .if5 .taken)) (c56 .mark .ensures))
 
 raise-returns-6 : (t : ℕ) → raise-lts.Need-returns-6 (raise-calls t) (raise-at t) raise.Post
 raise-returns-6 t c =
-    let c63 = c .before .before .before .before .before .before in
-    let c57 = c63 .before .before .before .before .before .before in
-    let c54 = c57 .before .before .before in
-    let c51 = c54 .before .before .before in
-    let c49 = c51 .before .before in
-    let c45 = c49 .before .before .before .before in
+    let c64 = c .before .before .before .before .before .before in
+    let c58 = c64 .before .before .before .before .before .before in
+    let c55 = c58 .before .before .before in
+    let c53 = c55 .before .before in
+    let c52 = c53 .before in
+    let c48 = c52 .before .before .before .before in
+    let c47 = c48 .before in
+    let c46 = c47 .before in
+    let c45 = c46 .before in
     let c44 = c45 .before in
     let c43 = c44 .before in
-    let c42 = c43 .before in
-    let c41 = c42 .before in
-    let c34 = c41 .before .before .before .before .before .before .before in
-    let c29 = c34 .before .before .before .before .before in
-    let c28 = c29 .before in
-    let c21 = c28 .before .before .before .before .before .before .before in
-    let c17 = c21 .before .before .before .before in
+    let c36 = c43 .before .before .before .before .before .before .before in
+    let c31 = c36 .before .before .before .before .before in
+    let c30 = c31 .before in
+    let c23 = c30 .before .before .before .before .before .before .before in
+    let c22 = c23 .before in
+    let c18 = c22 .before .before .before .before in
+    let c17 = c18 .before in
     let c16 = c17 .before in
     let c15 = c16 .before in
     let c14 = c15 .before in
@@ -288,147 +307,102 @@ raise-returns-6 t c =
     let c0 = c5 .before .before .before .before .before in
     let g = c0 .args in
     from-raised (g .rows .now) (g .journal .now) (g .index .now) (g .counts .now) (g .r) (c0 .pre .1 .0) (c5 .as-edge .result) (c5 .as-edge .ensures .0 .0) (c5 .as-edge .ensures .1 .0) (c5 .as-edge .ensures .1 .1) (c7 .free-row .ensures) (c10 .give-back .ensures) (g .above - 1) (g .under + 1)
-    (met-both (c7 .free-row .last .0) (g .journal .now) (g .index .now) (c10 .give-back .last .0) (g .above - 1) (g .under + 1) (c5 .as-edge .result) (c17 .side .result) (c21 .chain-row .result) (sym (c14 .same .ensures) ∙ c15 .if1 .left) (omega (arith, c16 .if2 .left)) (c17 .side .ensures) (c21 .chain-row .ensures) (omega (arith, c29 .if3 .left, c28 .rows-in .ensures, c21 .chain-row .kept)) (c21 .chain-row .kept .0) (c21 .chain-row .kept .1 .0) (c34 .attach .ensures .0) (c34 .attach .ensures .1) (c34 .attach .kept .0) (c34 .attach .kept .1 .0) (c34 .attach .kept .1 .1 .0) (sym (c41 .is-done .ensures) ∙ not-false _ (c42 .if4 .left)) (c43 .other .ensures) (c44 .bottom .ensures) (c45 .bottom-number .ensures) (c49 .meeting .ensures) (c51 .q .given .1) (c54 .finish .ensures) (c57 .finish2 .ensures) (c63 .pass-both .ensures))
+    (met-both (c7 .free-row .last .0) (g .journal .now) (g .index .now) (c10 .give-back .last .0) (g .above - 1) (g .under + 1) (c5 .as-edge .result) (c17 .side .result) (c23 .chain-row .result) (sym (c14 .same .ensures) ∙ c15 .if1 .left) (omega (arith, c16 .if2 .left)) (c17 .side .ensures) (c23 .chain-row .ensures (c5 .as-edge .result) (c18 .bottom .ensures) (c22 .bottom-number .ensures))
+    (omega (arith, c31 .if3 .left, c30 .rows-in .ensures, c23 .chain-row .kept)) (c23 .chain-row .kept .0) (c23 .chain-row .kept .1 .0) (c36 .attach .ensures .0) (c36 .attach .ensures .1) (c36 .attach .kept .0) (c36 .attach .kept .1 .0) (c36 .attach .kept .1 .1 .0) (sym (c43 .is-done .ensures) ∙ not-false _ (c44 .if4 .left)) (c45 .other .ensures) (c46 .bottom2 .ensures) (c47 .bottom-number2 .ensures)
+    (met-found _ _ _ _ _ _ (raised-not-apart _ _ (c5 .as-edge .result) (c5 .as-edge .ensures .0 .0)) (c48 .slot .ensures) (c52 .find .ensures))
+    (found-row _ (c53 .if5 .left)) (c55 .finish .ensures) (c58 .finish2 .ensures) (c64 .pass-both .ensures))
 
 raise-chain-row-requires : (t : ℕ) → raise-lts.Need-chain-row-requires (raise-calls t) (raise-at t) raise.Post
 raise-chain-row-requires t c κs =
-    let c10 = c .before .before .before .before .before .before .before .before .before .before in
+    let c10 = c .before .before .before .before .before .before .before .before .before .before .before .before in
     let c0 = c10 .before .before .before .before .before .before .before .before .before .before in
     (omega (arith, c0 .pre .1 .1), omega (arith, c0 .pre .1 .3, c10 .give-back .kept))
 
 raise-attach-requires : (t : ℕ) → raise-lts.Need-attach-requires (raise-calls t) (raise-at t) raise.Post
 raise-attach-requires t c κs =
-    let c29 = c .before .before .before .before in
-    let c28 = c29 .before in
-    let c21 = c28 .before .before .before .before .before .before .before in
-    let c10 = c21 .before .before .before .before .before .before .before .before .before .before .before in
+    let c31 = c .before .before .before .before in
+    let c30 = c31 .before in
+    let c23 = c30 .before .before .before .before .before .before .before in
+    let c10 = c23 .before .before .before .before .before .before .before .before .before .before .before .before .before in
     let c0 = c10 .before .before .before .before .before .before .before .before .before .before in
-    (omega (arith, c29 .if3 .left, c28 .rows-in .ensures), omega (arith, c0 .pre .1 .3, c10 .give-back .kept, c21 .chain-row .kept))
+    (omega (arith, c31 .if3 .left, c30 .rows-in .ensures), omega (arith, c0 .pre .1 .3, c10 .give-back .kept, c23 .chain-row .kept))
 
-raise-meeting-requires : (t : ℕ) → raise-lts.Need-meeting-requires (raise-calls t) (raise-at t) raise.Post
-raise-meeting-requires t c κs =
-    let c34 = c .before .before .before .before .before .before .before .before .before .before .before .before .before .before in
-    let c21 = c34 .before .before .before .before .before .before .before .before .before .before .before .before .before in
-    let c10 = c21 .before .before .before .before .before .before .before .before .before .before .before in
+raise-find-requires : (t : ℕ) → raise-lts.Need-find-requires (raise-calls t) (raise-at t) raise.Post
+raise-find-requires t c κs =
+    let c36 = c .before .before .before .before .before .before .before .before .before .before .before .before .before .before .before in
+    let c23 = c36 .before .before .before .before .before .before .before .before .before .before .before .before .before in
+    let c10 = c23 .before .before .before .before .before .before .before .before .before .before .before .before .before in
     let c0 = c10 .before .before .before .before .before .before .before .before .before .before in
-    (omega (arith, c0 .pre .1 .1), omega (arith, c0 .pre .1 .3, c10 .give-back .kept, c21 .chain-row .kept, c34 .attach .kept))
+    (omega (arith, c0 .pre .1 .1), omega (arith, c0 .pre .1 .3, c10 .give-back .kept, c23 .chain-row .kept, c36 .attach .kept))
 
 raise-finish-requires : (t : ℕ) → raise-lts.Need-finish-requires (raise-calls t) (raise-at t) raise.Post
 raise-finish-requires t c κs =
-    let c51 = c .before .before in
-    let c49 = c51 .before .before in
-    tip-has-row _ _ _ _ _ (c49 .meeting .ensures .there _ (c51 .q .given .1) .0)
+    let c53 = c .before in
+    let c52 = c53 .before in
+    tip-has-row _ _ _ _ _ (told-at _ _ _ _ _ _ _ (sym (c52 .find .ensures) ∙ found-row _ (c53 .if5 .left)) .0)
 
 raise-finish-requires-2 : (t : ℕ) → raise-lts.Need-finish-requires-2 (raise-calls t) (raise-at t) raise.Post
 raise-finish-requires-2 t c κs =
-    let c54 = c .before .before in
-    let c34 = c54 .before .before .before .before .before .before .before .before .before .before .before .before .before .before .before .before .before .before .before .before in
-    let c29 = c34 .before .before .before .before .before in
-    let c28 = c29 .before in
-    omega (arith, c54 .finish .kept, c34 .attach .kept, c29 .if3 .left, c28 .rows-in .ensures)
+    let c55 = c .before .before in
+    let c36 = c55 .before .before .before .before .before .before .before .before .before .before .before .before .before .before .before .before .before .before .before in
+    let c31 = c36 .before .before .before .before .before in
+    let c30 = c31 .before in
+    omega (arith, c55 .finish .kept, c36 .attach .kept, c31 .if3 .left, c30 .rows-in .ensures)
 
 raise-pass-both-requires : (t : ℕ) → raise-lts.Need-pass-both-requires (raise-calls t) (raise-at t) raise.Post
 raise-pass-both-requires t c κs =
-    let c57 = c .before .before .before .before .before in
-    let c54 = c57 .before .before .before in
-    let c53 = c54 .before in
-    let c34 = c53 .before .before .before .before .before .before .before .before .before .before .before .before .before .before .before .before .before .before .before in
-    let c29 = c34 .before .before .before .before .before in
-    let c28 = c29 .before in
-    let c21 = c28 .before .before .before .before .before .before .before in
-    let c16 = c21 .before .before .before .before .before in
+    let c58 = c .before .before .before .before .before in
+    let c55 = c58 .before .before .before in
+    let c53 = c55 .before .before in
+    let c52 = c53 .before in
+    let c36 = c52 .before .before .before .before .before .before .before .before .before .before .before .before .before .before .before .before in
+    let c31 = c36 .before .before .before .before .before in
+    let c30 = c31 .before in
+    let c23 = c30 .before .before .before .before .before .before .before in
+    let c16 = c23 .before .before .before .before .before .before .before in
     let c10 = c16 .before .before .before .before .before .before in
     let c0 = c10 .before .before .before .before .before .before .before .before .before .before in
-    let hq = raise-finish-requires t c53 (κs .0, tt) in (
+    let hq = tip-has-row _ _ _ _ _ (told-at _ _ _ _ _ _ _ (sym (c52 .find .ensures) ∙ found-row _ (c53 .if5 .left)) .0) in (
       omega (arith, c0 .pre .0, c16 .if2 .left),
       (
-        omega (arith, hq, c54 .finish .kept, c57 .finish2 .kept),
-        omega (arith, c57 .finish2 .kept, c54 .finish .kept, c34 .attach .kept, c29 .if3 .left, c28 .rows-in .ensures),
+        omega (arith, hq, c55 .finish .kept, c58 .finish2 .kept),
+        omega (arith, c58 .finish2 .kept, c55 .finish .kept, c36 .attach .kept, c31 .if3 .left, c30 .rows-in .ensures),
         omega (arith, c0 .pre .1 .1, c16 .if2 .left),
         omega (arith, c16 .if2 .left),
-        omega (arith, c0 .pre .1 .3, c10 .give-back .kept, c21 .chain-row .kept, c34 .attach .kept),
+        omega (arith, c0 .pre .1 .3, c10 .give-back .kept, c23 .chain-row .kept, c36 .attach .kept),
       ),
     )
 
-raise-same-length-15 : (t : ℕ) → raise-lts.Need-same-length-15 (raise-calls t) (raise-at t) raise.Post
-raise-same-length-15 t c =
-    let c54 = c .before .before in
-    let c34 = c54 .before .before .before .before .before .before .before .before .before .before .before .before .before .before .before .before .before .before .before .before in
-    let c21 = c34 .before .before .before .before .before .before .before .before .before .before .before .before .before in
-    let c10 = c21 .before .before .before .before .before .before .before .before .before .before .before in
+-- the calls that keep the lengths
+abbrev raise-stopped-by : (t : ℕ) → raise-lts.Then4 (raise-calls t) (raise-at t) raise.Post → raise-lts.After-free-row (raise-calls t) (raise-at t) raise.Post × raise-lts.After-give-back (raise-calls t) (raise-at t) raise.Post × raise-lts.After-chain-row (raise-calls t) (raise-at t) raise.Post × raise-lts.After-attach (raise-calls t) (raise-at t) raise.Post
+raise-stopped-by t c =
+    let c36 = c .before .before .before .before .before .before .before .before in
+    let c23 = c36 .before .before .before .before .before .before .before .before .before .before .before .before .before in
+    let c10 = c23 .before .before .before .before .before .before .before .before .before .before .before .before .before in
     let c7 = c10 .before .before .before in
-    omega (arith, c7 .free-row .kept, c10 .give-back .kept, c21 .chain-row .kept, c34 .attach .kept, c54 .mark .kept)
+    (c7, c10, c23, c36)
 
-raise-same-length-16 : (t : ℕ) → raise-lts.Need-same-length-16 (raise-calls t) (raise-at t) raise.Post
-raise-same-length-16 t c =
-    let c54 = c .before .before in
-    let c34 = c54 .before .before .before .before .before .before .before .before .before .before .before .before .before .before .before .before .before .before .before .before in
-    let c21 = c34 .before .before .before .before .before .before .before .before .before .before .before .before .before in
-    let c10 = c21 .before .before .before .before .before .before .before .before .before .before .before in
+-- the calls that keep the lengths
+abbrev raise-unmet-by : (t : ℕ) → raise-lts.After-slice-known9 (raise-calls t) (raise-at t) raise.Post → raise-lts.After-free-row (raise-calls t) (raise-at t) raise.Post × raise-lts.After-give-back (raise-calls t) (raise-at t) raise.Post × raise-lts.After-chain-row (raise-calls t) (raise-at t) raise.Post × raise-lts.After-attach (raise-calls t) (raise-at t) raise.Post × raise-lts.After-mark (raise-calls t) (raise-at t) raise.Post
+raise-unmet-by t c =
+    let c56 = c .before .before in
+    let c36 = c56 .before .before .before .before .before .before .before .before .before .before .before .before .before .before .before .before .before .before .before .before in
+    let c23 = c36 .before .before .before .before .before .before .before .before .before .before .before .before .before in
+    let c10 = c23 .before .before .before .before .before .before .before .before .before .before .before .before .before in
     let c7 = c10 .before .before .before in
-    omega (arith, c7 .free-row .kept, c10 .give-back .kept, c21 .chain-row .kept, c34 .attach .kept, c54 .mark .kept)
+    (c7, c10, c23, c36, c56)
 
-raise-same-length-17 : (t : ℕ) → raise-lts.Need-same-length-17 (raise-calls t) (raise-at t) raise.Post
-raise-same-length-17 t c =
-    let c54 = c .before .before in
-    let c34 = c54 .before .before .before .before .before .before .before .before .before .before .before .before .before .before .before .before .before .before .before .before in
-    let c21 = c34 .before .before .before .before .before .before .before .before .before .before .before .before .before in
-    let c10 = c21 .before .before .before .before .before .before .before .before .before .before .before in
+-- the calls that keep the lengths
+abbrev raise-met-by : (t : ℕ) → raise-lts.After-slice-known11 (raise-calls t) (raise-at t) raise.Post → raise-lts.After-pass-both (raise-calls t) (raise-at t) raise.Post × raise-lts.After-finish2 (raise-calls t) (raise-at t) raise.Post × raise-lts.After-finish (raise-calls t) (raise-at t) raise.Post × raise-lts.After-attach (raise-calls t) (raise-at t) raise.Post × raise-lts.After-chain-row (raise-calls t) (raise-at t) raise.Post × raise-lts.After-give-back (raise-calls t) (raise-at t) raise.Post × raise-lts.After-free-row (raise-calls t) (raise-at t) raise.Post
+raise-met-by t c =
+    let c64 = c .before .before .before .before .before .before in
+    let c58 = c64 .before .before .before .before .before .before in
+    let c55 = c58 .before .before .before in
+    let c36 = c55 .before .before .before .before .before .before .before .before .before .before .before .before .before .before .before .before .before .before .before in
+    let c23 = c36 .before .before .before .before .before .before .before .before .before .before .before .before .before in
+    let c10 = c23 .before .before .before .before .before .before .before .before .before .before .before .before .before in
     let c7 = c10 .before .before .before in
-    omega (arith, c7 .free-row .kept, c10 .give-back .kept, c21 .chain-row .kept, c34 .attach .kept, c54 .mark .kept)
-
-raise-same-length-18 : (t : ℕ) → raise-lts.Need-same-length-18 (raise-calls t) (raise-at t) raise.Post
-raise-same-length-18 t c =
-    let c54 = c .before .before in
-    let c34 = c54 .before .before .before .before .before .before .before .before .before .before .before .before .before .before .before .before .before .before .before .before in
-    let c21 = c34 .before .before .before .before .before .before .before .before .before .before .before .before .before in
-    let c10 = c21 .before .before .before .before .before .before .before .before .before .before .before in
-    let c7 = c10 .before .before .before in
-    omega (arith, c7 .free-row .kept, c10 .give-back .kept, c21 .chain-row .kept, c34 .attach .kept, c54 .mark .kept)
-
-raise-same-length-19 : (t : ℕ) → raise-lts.Need-same-length-19 (raise-calls t) (raise-at t) raise.Post
-raise-same-length-19 t c =
-    let c63 = c .before .before .before .before .before .before in
-    let c57 = c63 .before .before .before .before .before .before in
-    let c54 = c57 .before .before .before in
-    let c34 = c54 .before .before .before .before .before .before .before .before .before .before .before .before .before .before .before .before .before .before .before .before in
-    let c21 = c34 .before .before .before .before .before .before .before .before .before .before .before .before .before in
-    let c10 = c21 .before .before .before .before .before .before .before .before .before .before .before in
-    let c7 = c10 .before .before .before in
-    omega (arith, c7 .free-row .kept, c10 .give-back .kept, c21 .chain-row .kept, c34 .attach .kept, c54 .finish .kept, c57 .finish2 .kept, c63 .pass-both .kept)
-
-raise-same-length-20 : (t : ℕ) → raise-lts.Need-same-length-20 (raise-calls t) (raise-at t) raise.Post
-raise-same-length-20 t c =
-    let c63 = c .before .before .before .before .before .before in
-    let c57 = c63 .before .before .before .before .before .before in
-    let c54 = c57 .before .before .before in
-    let c34 = c54 .before .before .before .before .before .before .before .before .before .before .before .before .before .before .before .before .before .before .before .before in
-    let c21 = c34 .before .before .before .before .before .before .before .before .before .before .before .before .before in
-    let c10 = c21 .before .before .before .before .before .before .before .before .before .before .before in
-    let c7 = c10 .before .before .before in
-    omega (arith, c7 .free-row .kept, c10 .give-back .kept, c21 .chain-row .kept, c34 .attach .kept, c54 .finish .kept, c57 .finish2 .kept, c63 .pass-both .kept)
-
-raise-same-length-21 : (t : ℕ) → raise-lts.Need-same-length-21 (raise-calls t) (raise-at t) raise.Post
-raise-same-length-21 t c =
-    let c63 = c .before .before .before .before .before .before in
-    let c57 = c63 .before .before .before .before .before .before in
-    let c54 = c57 .before .before .before in
-    let c34 = c54 .before .before .before .before .before .before .before .before .before .before .before .before .before .before .before .before .before .before .before .before in
-    let c21 = c34 .before .before .before .before .before .before .before .before .before .before .before .before .before in
-    let c10 = c21 .before .before .before .before .before .before .before .before .before .before .before in
-    let c7 = c10 .before .before .before in
-    omega (arith, c7 .free-row .kept, c10 .give-back .kept, c21 .chain-row .kept, c34 .attach .kept, c54 .finish .kept, c57 .finish2 .kept, c63 .pass-both .kept)
-
-raise-same-length-22 : (t : ℕ) → raise-lts.Need-same-length-22 (raise-calls t) (raise-at t) raise.Post
-raise-same-length-22 t c =
-    let c63 = c .before .before .before .before .before .before in
-    let c57 = c63 .before .before .before .before .before .before in
-    let c54 = c57 .before .before .before in
-    let c34 = c54 .before .before .before .before .before .before .before .before .before .before .before .before .before .before .before .before .before .before .before .before in
-    let c21 = c34 .before .before .before .before .before .before .before .before .before .before .before .before .before in
-    let c10 = c21 .before .before .before .before .before .before .before .before .before .before .before in
-    let c7 = c10 .before .before .before in
-    omega (arith, c7 .free-row .kept, c10 .give-back .kept, c21 .chain-row .kept, c34 .attach .kept, c54 .finish .kept, c57 .finish2 .kept, c63 .pass-both .kept)
+    (c64, c58, c55, c36, c23, c10, c7)
 
 pub +pass-both+pass-up+raise-spec : {M : Type 1} → statement M
 +pass-both+pass-up+raise-spec =
@@ -447,12 +421,13 @@ pub +pass-both+pass-up+raise-spec : {M : Type 1} → statement M
     raise.Post
     (search needs) (search needs) (search needs) (search needs) (search needs) (search needs) (search needs) (search needs) (search needs) (search needs) (search needs) (raise-returns t)
     (search needs) (search needs) (search needs) (raise-returns-2 t)
-    (search needs) (raise-chain-row-requires t) (search needs) (search needs) (search needs) (search needs) (raise-returns-3 t)
+    (search needs) (search needs) (search needs) (raise-chain-row-requires t)
+    (search needs) (search needs) (search needs) (search needs) (raise-returns-3 t)
     (raise-attach-requires t)
-    (search needs) (search needs) (search needs) (search needs) (search needs) (raise-returns-4 t)
-    (search needs) (search needs) (search needs) (raise-meeting-requires t)
-    (search needs) (search needs) (search needs) (raise-same-length-15 t) (raise-same-length-16 t) (raise-same-length-17 t) (raise-same-length-18 t) (raise-returns-5 t)
+    (search needs) (λ c. omega (arith, raise-stopped-by t c)) (λ c. omega (arith, raise-stopped-by t c)) (λ c. omega (arith, raise-stopped-by t c)) (λ c. omega (arith, raise-stopped-by t c)) (raise-returns-4 t)
+    (search needs) (search needs) (search needs) (search needs) (raise-find-requires t)
+    (search needs) (λ c. omega (arith, raise-unmet-by t c)) (λ c. omega (arith, raise-unmet-by t c)) (λ c. omega (arith, raise-unmet-by t c)) (λ c. omega (arith, raise-unmet-by t c)) (raise-returns-5 t)
     (raise-finish-requires t)
     (raise-finish-requires-2 t)
     (raise-pass-both-requires t)
-    (raise-same-length-19 t) (raise-same-length-20 t) (raise-same-length-21 t) (raise-same-length-22 t) (raise-returns-6 t)
+    (λ c. omega (arith, raise-met-by t c)) (λ c. omega (arith, raise-met-by t c)) (λ c. omega (arith, raise-met-by t c)) (λ c. omega (arith, raise-met-by t c .0 .pass-both .kept, raise-met-by t c .3 .attach .kept, raise-met-by t c .4 .chain-row .kept, raise-met-by t c .5 .give-back .kept)) (raise-returns-6 t)
