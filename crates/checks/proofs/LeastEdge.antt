@@ -48,8 +48,16 @@ module _ {test : ℕ → Bool} {edge : ℕ → ℕ} {none : ℕ} where
   pub least-more : {a b r v u : ℕ} {t : Bool} → a ≤ b → t ≡ test b → v ≡ cond t (edge b) none → u ≡ min r v → Least test edge none a b r → Least test edge none a (b + 1) u
   least-more {r = r} {v = v} {u = u} ab p q m x = let n : u ≡ min r (min none v) = omega (arith, x .within) in rw n (least-join ab (omega arith) x (least-one p q))
 
+  -- no further end passes
+  pub least-on : {a b c r : ℕ} → b ≤ c → ((k : ℕ) → b ≤ k → k < c → test k ≡ false) → Least test edge none a b r → Least test edge none a c r
+  least-on {b = b} bc f x = record {
+    within = x .within;
+    some = λ l. let v = x .some l in (v .0, v .1, omega (arith, v .2), v .3, v .4);
+    under = λ k l h t. ⊎-elim (λ g. x .under k l g t) (λ g. absurd (not-both t (f k g h))) (lt-or-le k b);
+  }
+
   pub least-end : {a b c r : ℕ} → b ≤ c → c ≤ b → Least test edge none a b r → Least test edge none a c r
-  least-end l h x = record { within = x .within; some = λ m. let v = x .some m in (v .0, v .1, omega (arith, v .2), v .3, v .4); under = λ k m n. x .under k m (omega arith) }
+  least-end l h = least-on l (λ k g i. absurd (omega arith))
 
   -- another test that the ends between pass alike
   pub least-same : (test′ : ℕ → Bool) {a b r : ℕ} → ((k : ℕ) → a ≤ k → k < b → test′ k ≡ test k) → Least test edge none a b r → Least test′ edge none a b r

@@ -8,17 +8,17 @@ use Prim.Native.Nat.{ℕ, _+_, _-_, _*_, _/_, _%_, _≤_, _<_, min}
 use native.Mathlib.Omega.{arith}
 use lib.Dec.{eqb}
 use lib.ListN.{getD}
-use borrow.Author.Tests.{lt-ltb, le-ltb, eq-eqb, ne-eqb}
+use borrow.Author.Tests.{lt-ltb, le-ltb, eqb-true, eq-eqb, ne-eqb}
 use Rattle.laws.specs.Counting.{bit, count}
-use Rattle.laws.proofs.Deciding.{lt-or-le, eq-or-ne}
-use Rattle.laws.proofs.Tests.{eqb-agree}
+use Rattle.laws.proofs.Deciding.{lt-or-le, eq-or-ne, not-both, both-true}
+use Rattle.laws.proofs.Tests.{not-true, eqb-agree}
 use Rattle.laws.proofs.Counting.{count-more, count-all}
 use Rattle.laws.proofs.Between.{count-between}
 use Rattle.laws.proofs.Either.{count-either}
 use Rattle.checks.specs.declared.places.AtFault.{AtFault}
 use Rattle.checks.specs.Ends.{keyIn, placeIn, edgeIn, arrivesIn}
-use Rattle.checks.specs.Places.{Walks, Visited, AtPlace, repeatsIn, arrivesAt, leavesAt, unevenAt, anyEnd, Least, FoundSoFar}
-use Rattle.checks.proofs.LeastEdge.{least-start, least-before, least-join}
+use Rattle.checks.specs.Places.{Walks, Visited, AtPlace, repeatsIn, arrivesAt, leavesAt, unevenAt, passedThrough, anyEnd, Least, FoundSoFar}
+use Rattle.checks.proofs.LeastEdge.{least-start, least-before, least-join, least-on}
 
 -- the ends from a on that have the place of the end at a
 abbrev pub Here : List ℕ → ℕ → ℕ → Type 0
@@ -46,6 +46,21 @@ module _ {words : List ℕ} {m : ℕ} (W : Walks words m) where
     before = λ k l. seen k a l (omega arith) (omega arith);
     after = λ k l h. ⊎-elim (λ g. omega (arith, g, rises b k l h)) (λ g. absurd (other (omega arith) (omega (arith, g, rises a b (omega arith) (omega arith))))) (lt-or-le (placeIn words a) (placeIn words b));
   }
+
+-- one more end is counted
+pub arrival-is : (words : List ℕ) (k : ℕ) → bit (arrivesIn words k) ≡ getD words k 0 / 8192 % 2
+arrival-is words k = ⊎-elim (λ q. rw (eq-eqb (getD words k 0 / 8192 % 2) 1 q) (omega arith)) (λ q. rw (ne-eqb (getD words k 0 / 8192 % 2) 1 q) (omega arith)) (eq-or-ne (getD words k 0 / 8192 % 2) 1)
+
+pub arriving-more : (words : List ℕ) (a k number : ℕ) {more : ℕ} → number + count (arrivesIn words) a ≡ count (arrivesIn words) k → more ≡ getD words k 0 / 8192 % 2 → number + more + count (arrivesIn words) a ≡ count (arrivesIn words) (k + 1)
+arriving-more words a k number h q = omega (arith, h, q, count-more (arrivesIn words) k, arrival-is words k)
+
+pub repeats-told : (words : List ℕ) (k : ℕ) → 0 < k → eqb (keyIn words (k - 1)) (keyIn words k) ≡ repeatsIn words k
+unfolding repeatsIn
+repeats-told words k l = rw (lt-ltb 0 k l)
+
+through-told : (words : List ℕ) (a b : ℕ) → passedThrough words a b ≡ true → (b - a ≡ 2) × (getD words a 0 / 8192 % 2 ≡ getD words (a + 1) 0 / 8192 % 2 → ⊥)
+unfolding passedThrough
+through-told words a b t = let v = both-true _ _ t in (eqb-true _ _ (v .0), λ q. not-both (eq-eqb _ _ q) (not-true _ (v .1)))
 
 module _ {words : List ℕ} {m a b : ℕ} (P : AtPlace words m a b) where
   pub visited-more : Visited words m b
@@ -97,16 +112,26 @@ module _ {words : List ℕ} {m a b : ℕ} (P : AtPlace words m a b) where
     uneven = least-join (omega arith) (omega (arith, P .some)) (F .uneven) y;
   }
 
+  -- two ends, one that arrives and one that leaves: no kind stands twice, and as many arrive as leave
+  pub found-on : {none : ℕ} {f : AtFault} → passedThrough words a b ≡ true → FoundSoFar words m none a f → FoundSoFar words m none b f
+  found-on t F = record { repeated = least-on (omega (arith, P .some)) no-repeat (F .repeated); uneven = least-on (omega (arith, P .some)) level (F .uneven) }
+    where
+      w : (b - a ≡ 2) × (getD words a 0 / 8192 % 2 ≡ getD words (a + 1) 0 / 8192 % 2 → ⊥)
+      w = through-told words a b t
+
+      next-new : repeatsIn words (a + 1) ≡ false
+      next-new = let back : a + 1 - 1 ≡ a = omega arith in rw (sym (repeats-told words (a + 1) (omega arith))) (ne-eqb (keyIn words (a + 1 - 1)) (keyIn words (a + 1)) (λ q. w .1 (omega (arith, sym (ap (keyIn words) back) ∙ q))))
+
+      no-repeat : (k : ℕ) → a ≤ k → k < b → repeatsIn words k ≡ false
+      no-repeat k l h = ⊎-elim (λ g. let q : k ≡ a = omega (arith, w .0) in rw q first-new) (λ g. let q : k ≡ a + 1 = omega (arith, w .0) in rw q next-new) (lt-or-le k (a + 1))
+
+      counted-one : 1 + count (arrivesIn words) a ≡ count (arrivesIn words) b
+      counted-one =
+          let q : b ≡ a + 1 + 1 = omega (arith, w .0) in
+          omega (arith, ap (count (arrivesIn words)) q, count-more (arrivesIn words) a, count-more (arrivesIn words) (a + 1), arrival-is words a, arrival-is words (a + 1), w .1)
+
+      level : (k : ℕ) → a ≤ k → k < b → unevenAt words m k ≡ false
+      level k l h = uneven-is 1 counted-one k l h ∙ ap not (eq-eqb 2 (b - a) (sym (w .0)))
+
 pub found-none : (words : List ℕ) (m none : ℕ) → FoundSoFar words m none 0 (record { repeated = none; uneven = none })
 found-none words m none = record { repeated = least-start; uneven = least-start }
-
--- one more end is counted
-pub arrival-is : (words : List ℕ) (k : ℕ) → bit (arrivesIn words k) ≡ getD words k 0 / 8192 % 2
-arrival-is words k = ⊎-elim (λ q. rw (eq-eqb (getD words k 0 / 8192 % 2) 1 q) (omega arith)) (λ q. rw (ne-eqb (getD words k 0 / 8192 % 2) 1 q) (omega arith)) (eq-or-ne (getD words k 0 / 8192 % 2) 1)
-
-pub arriving-more : (words : List ℕ) (a k number : ℕ) {more : ℕ} → number + count (arrivesIn words) a ≡ count (arrivesIn words) k → more ≡ getD words k 0 / 8192 % 2 → number + more + count (arrivesIn words) a ≡ count (arrivesIn words) (k + 1)
-arriving-more words a k number h q = omega (arith, h, q, count-more (arrivesIn words) k, arrival-is words k)
-
-pub repeats-told : (words : List ℕ) (k : ℕ) → 0 < k → eqb (keyIn words (k - 1)) (keyIn words k) ≡ repeatsIn words k
-unfolding repeatsIn
-repeats-told words k l = rw (lt-ltb 0 k l)

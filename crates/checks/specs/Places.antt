@@ -3,7 +3,7 @@
 use mathlib.Core.Path.{_≡_}
 use mathlib.Core.Bool.{Bool, true, not, _&&_}
 use mathlib.Core.List.{List}
-use Prim.Native.Nat.{ℕ, _-_, _≤_, _<_}
+use Prim.Native.Nat.{ℕ, _+_, _-_, _/_, _%_, _≤_, _<_}
 use lib.Dec.{eqb, ltb}
 use lib.IntN.{ℤ}
 use lib.ListN.{length, getD}
@@ -48,6 +48,10 @@ leavesAt words p k = eqb (placeIn words k) p && not (arrivesIn words k)
 -- at the place of the end at k these differ in number
 unfoldable pub unevenAt : List ℕ → ℕ → ℕ → Bool
 unevenAt words m k = not (eqb (count (arrivesAt words (placeIn words k)) m) (count (leavesAt words (placeIn words k)) m))
+
+-- the ends from a to b are two, of which one arrives and one leaves
+unfoldable pub passedThrough : List ℕ → ℕ → ℕ → Bool
+passedThrough words a b = eqb (b - a) 2 && not (eqb (getD words a 0 / 8192 % 2) (getD words (a + 1) 0 / 8192 % 2))
 
 -- the test that every end passes
 abbrev pub anyEnd : ℕ → Bool

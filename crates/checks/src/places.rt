@@ -19,7 +19,7 @@ ghost use Rattle.sheet.specs.Edges.{edgesIn};
 ghost use Rattle.checks.specs.Faults.{EndsFit};
 ghost use Rattle.checks.specs.Stages.{placesChecked};
 ghost use Rattle.checks.specs.Ends.{edgeIn, arrivesIn, Ordered};
-ghost use Rattle.checks.specs.Places.{firstAtFault, Least, repeatsIn, unevenAt, Walks, AtPlace, FoundSoFar};
+ghost use Rattle.checks.specs.Places.{firstAtFault, Least, repeatsIn, unevenAt, passedThrough, Walks, AtPlace, FoundSoFar};
 ghost use Rattle.checks.specs.Corners.{noMarks, MarksAfter};
 ghost use Rattle.checks.specs.Numbers.{noNumbers, NumbersAfter};
 
@@ -85,12 +85,26 @@ fn least_uneven(words: &[u64], m: usize, from: usize, to: usize, none: usize) ->
     ends::least_edge(words, from, to, none)
 }
 
-// What is done at a place, whose ends stand from `from` to `to`.
+// Whether a place has two ends, one that arrives and one that leaves. Nearly all places do.
+fn passed_through(words: &[u64], from: usize, to: usize) -> bool
+    requires { ⌜ (from < to) × (to ≤ length (now words)) ⌝ }
+    ensures { λ r. ⌜ r ≡ passedThrough (now (words .entry)) from to ⌝ }
+{
+    if to - from != 2 {
+        return false;
+    }
+    ends::arrival_of(words[from]) != ends::arrival_of(words[from + 1])
+}
+
+// What is done at a place, whose ends stand from `from` to `to`. One that is passed through has neither 8 nor 9.
 fn at_place(words: &[u64], m: usize, from: usize, to: usize, found: AtFault, none: usize) -> AtFault
     requires place { ⌜ Walks (now words) m × AtPlace (now words) m from to ⌝ }
     requires found { ⌜ FoundSoFar (now words) m none from found ⌝ }
     ensures { λ r. ⌜ FoundSoFar (now (words .entry)) m none to r ⌝ }
 {
+    if passed_through(words, from, to) {
+        return found;
+    }
     let repeated = least_repeated(words, from, to, none);
     let uneven = least_uneven(words, m, from, to, none);
     AtFault {
