@@ -13,7 +13,7 @@ use Rattle.laws.proofs.Deciding.{both-true, neither-true}
 use Rattle.laws.proofs.Tests.{not-false}
 use Rattle.sheet.specs.declared.Point.{Point}
 use Rattle.sheet.specs.declared.Edge.{Edge}
-use Rattle.sheet.specs.Points.{sameZ, within, inRange, isFilm, isSame, isBelow, isUp, topOf, bottomOf}
+use Rattle.sheet.specs.Points.{sameZ, within, inRange, isFilm, isSame, isBelow, isUp, topOf}
 use Rattle.sheet.specs.Edges.{edgeAt}
 use Rattle.sheet.specs.Answers.{pastRange, filmPastRange, equalEnds, topFalls, edgeFault}
 use Rattle.checks.specs.Faults.{endPastRange, filmPast, endsEqual, faultAlone, topBelow, beforeFirst, faultAfter, edgeBefore, EndsFit}
@@ -32,18 +32,14 @@ not-below-lowest p h = let w = both-true (within (p .x)) (within (p .y)) h in by
     by true x y = x
     by false x y = y
 
--- both ends in the range, and so the one that is chosen
-chosen-in-range : (u : Bool) (p q : Point) → inRange p ≡ true → inRange q ≡ true → inRange (cond u p q) ≡ true
-chosen-in-range true p q a b = a
-chosen-in-range false p q a b = b
-
+-- with both ends in the range the top is, whichever it is
 pub top-in-range : (e : Edge) → inRange (e .tail) ≡ true → inRange (e .head) ≡ true → inRange (topOf e) ≡ true
 unfolding topOf
-top-in-range e t h = chosen-in-range (isUp e) (e .head) (e .tail) h t
-
-pub bottom-in-range : (e : Edge) → inRange (e .tail) ≡ true → inRange (e .head) ≡ true → inRange (bottomOf e) ≡ true
-unfolding bottomOf
-bottom-in-range e t h = chosen-in-range (isUp e) (e .tail) (e .head) t h
+top-in-range e t h = by (isUp e)
+  where
+    by : (u : Bool) → inRange (cond u (e .head) (e .tail)) ≡ true
+    by true = h
+    by false = t
 
 ends-in-range : (e : Edge) → endPastRange e ≡ false → (inRange (e .tail) ≡ true) × (inRange (e .head) ≡ true)
 unfolding endPastRange

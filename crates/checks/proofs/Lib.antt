@@ -1,4 +1,5 @@
 -- The laws behind the checks, each after those that it rests on.
+pub mod EdgeRanks
 pub mod EdgeFaults
 pub mod LeastEdge
 pub mod Words

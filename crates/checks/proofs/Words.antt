@@ -1,13 +1,14 @@
 -- The words of the ends. A word gives its end's place, the edge's kind there and the edge back. At its top an edge comes from below and at its bottom
 -- from above, so the words that are packed are those of all the ends, each once; and so are the words that the sort leaves.
 use mathlib.Core.Path.{_≡_, refl, sym, ap, _∙_}
-use mathlib.Core.Bool.{Bool, true, false, not, cond}
+use mathlib.Core.Bool.{Bool, true, false, cond}
 use mathlib.Core.List.{List}
 use mathlib.Core.Logic.{_⊎_, inl, inr, ⊎-elim}
-use Prim.Native.Nat.{ℕ, _+_, _-_, _*_, _/_, _%_, _≤_, _<_}
+use Prim.Native.Nat.{ℕ, _+_, _-_, _*_, _/_, _%_, _≤_, _<_, min, max}
 use native.Mathlib.Omega.{arith}
 use lib.Dec.{ltb}
 use lib.IntN.{ℤ}
+use lib.Signed.{mag}
 use lib.ListN.{length, getD, set, length-set}
 use lib.Seq.{getD-set-same, getD-set-other}
 use borrow.Author.Tests.{lt-ltb, le-ltb, ltb-true, ltb-false, eq-eqb}
@@ -19,12 +20,13 @@ use Rattle.sheet.specs.Points.{isBelow, isUp, topOf, bottomOf}
 use Rattle.sheet.specs.Rank.{rank, placeOn}
 use Rattle.sheet.specs.Edges.{edgeAt, drawingOf}
 use Rattle.sheet.specs.Kinds.{Way, arriving, leaving, From, below, above, otherWay, endOf, comes}
-use Rattle.sheet.proofs.Ranks.{rank-same}
+use Rattle.sheet.proofs.Ranks.{rank-same, rank-small}
 use Rattle.sheet.proofs.Places.{place-below, height-of}
 use Rattle.sorting.specs.Sorted.{Sorted}
 use Rattle.sorting.proofs.Standing.{Different, old-stands, new-stood, strictly-rising}
 use Rattle.checks.specs.Faults.{EndsFit}
 use Rattle.checks.specs.Ends.{wayNumber, fromNumber, endWord, wordOf, wayIf, topWay, topWord, bottomWord, Packed, IsEnd, Ordered}
+use Rattle.checks.proofs.EdgeRanks.{up-by-rank, top-by-rank, bottom-by-rank}
 use Rattle.checks.proofs.EdgeFaults.{tail-in, head-in, film-in, ends-differ}
 use Rattle.sheet.specs.Amounts.{films, mostEdges}
 
@@ -71,9 +73,9 @@ module _ {s : List ℤ} {n : ℕ} (E : EndsFit s n) (e : ℕ) (l : e < n) where
   unfolding tail head heightOf
   ordered-ends = place-below _ _ tail head (film-in E e l) (film-in E e l) (tail-in E e l) (head-in E e l)
 
-  level-ends : heightOf tail ≡ heightOf head → rank tail ≡ rank head
+  level : (p : Point) → heightOf p ≡ rank p
   unfolding heightOf
-  level-ends q = sym (height-of _ tail (film-in E e l)) ∙ q ∙ height-of _ head (film-in E e l)
+  level p = height-of _ p (film-in E e l)
 
   higher : isBelow tail head ≡ true → heightOf tail < heightOf head
   higher u = ltb-true _ _ (sym ordered-ends ∙ u)
@@ -82,7 +84,7 @@ module _ {s : List ℤ} {n : ℕ} (E : EndsFit s n) (e : ℕ) (l : e < n) where
   unfolding tail head
   lower u =
       let le : heightOf head ≤ heightOf tail = ltb-false _ _ (sym ordered-ends ∙ u) in
-      ⊎-elim (λ h. h) (λ h. absurd (not-both (rank-same tail head (tail-in E e l) (head-in E e l) ∙ eq-eqb (rank tail) (rank head) (level-ends (omega arith))) (ends-differ E e l))) (lt-or-le (heightOf head) (heightOf tail))
+      ⊎-elim (λ h. h) (λ h. absurd (not-both (rank-same tail head (tail-in E e l) (head-in E e l) ∙ eq-eqb (rank tail) (rank head) (omega (arith, level tail, level head))) (ends-differ E e l))) (lt-or-le (heightOf head) (heightOf tail))
 
   pub rises-to : isBelow (edgeAt s e .tail) (edgeAt s e .head) ≡ true → drawingOf s .height (drawingOf s .tail e) < drawingOf s .height (drawingOf s .head e)
   unfolding drawingOf tail head heightOf
@@ -92,22 +94,26 @@ module _ {s : List ℤ} {n : ℕ} (E : EndsFit s n) (e : ℕ) (l : e < n) where
   unfolding drawingOf tail head heightOf
   falls-to = lower
 
-  module _ {edge : Edge} (read : edge ≡ edgeAt s e) {p : Point} {up : Bool} (way : up ≡ isUp edge) where
-    pub top-told : p ≡ topOf edge → endWord (placeOn (edge .film) p) (2 * bit up + 1) e ≡ topWord s e
-    unfolding wordOf topWay topOf isUp comes drawingOf tail head heightOf
-    top-told q = rw (q, way, read) (by (isBelow tail head) refl)
+  -- by the ranks of the ends
+  module _ {edge : Edge} (read : edge ≡ edgeAt s e) {t h : ℕ} (tail-rank : t ≡ rank (edge .tail)) (head-rank : h ≡ rank (edge .head)) where
+    pub ranks-small : (t < 4398046511104) × (h < 4398046511104)
+    ranks-small = rw (tail-rank, head-rank, read) (rank-small _ (tail-in E e l), rank-small _ (head-in E e l))
+
+    pub top-told : endWord (max t h * films + mag (edge .film)) (2 * bit (ltb t h) + 1) e ≡ topWord s e
+    unfolding wordOf topWay topOf isUp comes drawingOf placeOn tail head heightOf
+    top-told = rw (tail-rank, head-rank, read, sym (top-by-rank (edgeAt s e) (tail-in E e l) (head-in E e l)), sym (up-by-rank (edgeAt s e) (tail-in E e l) (head-in E e l))) (by (isBelow tail head) refl)
       where
         by : (u : Bool) → isBelow tail head ≡ u → endWord (placeOn (edgeAt s e .film) (cond u head tail)) (2 * bit u + 1) e ≡ wordOf s (wayIf u) e
         by true u = rw (lt-ltb (heightOf tail) (heightOf head) (higher u))
         by false u = rw (lt-ltb (heightOf head) (heightOf tail) (lower u))
 
-    pub bottom-told : p ≡ bottomOf edge → endWord (placeOn (edge .film) p) (2 * bit (not up)) e ≡ bottomWord s e
-    unfolding wordOf topWay bottomOf isUp comes drawingOf tail head heightOf
-    bottom-told q = rw (q, way, read) (by (isBelow tail head) refl)
+    pub bottom-told : endWord (min t h * films + mag (edge .film)) (2 * bit (ltb h t)) e ≡ bottomWord s e
+    unfolding wordOf topWay bottomOf isUp comes drawingOf placeOn tail head heightOf
+    bottom-told = rw (tail-rank, head-rank, read, sym (bottom-by-rank (edgeAt s e) (tail-in E e l) (head-in E e l))) (by (isBelow tail head) refl)
       where
-        by : (u : Bool) → isBelow tail head ≡ u → endWord (placeOn (edgeAt s e .film) (cond u tail head)) (2 * bit (not u)) e ≡ wordOf s (otherWay (wayIf u)) e
-        by true u = rw (le-ltb (heightOf head) (heightOf tail) (omega (arith, higher u)))
-        by false u = rw (le-ltb (heightOf tail) (heightOf head) (omega (arith, lower u)))
+        by : (u : Bool) → isBelow tail head ≡ u → endWord (placeOn (edgeAt s e .film) (cond u tail head)) (2 * bit (ltb (rank head) (rank tail))) e ≡ wordOf s (otherWay (wayIf u)) e
+        by true u = rw (le-ltb (rank head) (rank tail) (omega (arith, level tail, level head, higher u)), le-ltb (heightOf head) (heightOf tail) (omega (arith, higher u)))
+        by false u = rw (lt-ltb (rank head) (rank tail) (omega (arith, level tail, level head, lower u)), le-ltb (heightOf tail) (heightOf head) (omega (arith, lower u)))
 
 -- one more edge packed
 pub packed-more : {s : List ℤ} {words : List ℕ} {n m top bottom : ℕ} → Packed s words n m → m < n → 2 * n ≤ length words → top ≡ topWord s m → bottom ≡ bottomWord s m → Packed s (set (set words m top) (n + m) bottom) n (m + 1)

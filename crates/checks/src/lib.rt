@@ -7,6 +7,7 @@ pub mod lengths;
 mod numbers;
 mod ordering;
 pub mod places;
+mod ranks;
 
 use sheet::Check;
 use sheet::Edge;

@@ -1,26 +1,28 @@
 -- `checks::ends::bottom_word` meets its contract.
-use mathlib.Core.Path.{ap, _∙_}
-use Prim.Native.Nat.{ℕ, _*_}
+use mathlib.Core.Path.{_∙_}
 use native.Mathlib.Omega.{arith}
 use borrow.Author.Needs.{needs}
-use Rattle.sheet.specs.Points.{inRange, bottomOf}
-use Rattle.sheet.specs.Rank.{placeOn}
-use Rattle.checks.specs.Ends.{endWord}
-use Rattle.checks.proofs.EdgeFaults.{bottom-in-range, tail-in, head-in, film-in}
-use Rattle.checks.proofs.Words.{bottom-told}
+use Rattle.checks.proofs.EdgeFaults.{film-in}
+use Rattle.checks.proofs.Words.{ranks-small, bottom-told}
 use Rattle.checks.proofs.ends.bottom_word.Statement.{statement}
 use Rattle.checks.proofs.ends.bottom_word.Tie as tie
 
 word-requires : tie.Need-word-requires
-word-requires c κs = let s = c .before .before .before .before in
-    let e = s .args .e in
-    (rw (c .before .before .before .at .ensures) (film-in (s .pre .0) e (s .pre .1)), ap inRange (c .before .before .bottom .ensures ∙ ap bottomOf (c .before .before .before .at .ensures)) ∙ bottom-in-range _ (tail-in (s .pre .0) e (s .pre .1)) (head-in (s .pre .0) e (s .pre .1)), search needs, omega (arith, s .pre .0 .few))
+word-requires c κs =
+    let h = c .before .before in
+    let a = h .before .before in
+    let s = a .before in
+    let small = ranks-small (s .pre .0) (s .args .e) (s .pre .1) (a .at .ensures) (h .before .of-tail .ensures) (h .of-head .ensures) in
+    (rw (a .at .ensures) (film-in (s .pre .0) (s .args .e) (s .pre .1)), omega (arith, c .before .lower .ensures, small .0, small .1), search needs, omega (arith, s .pre .0 .few))
 
 returns : tie.Need-returns
-returns c = let s = c .before .before .before .before .before in
-    c .word .ensures ∙ ap (λ (x : ℕ). endWord (placeOn (c .before .before .before .before .at .result .film) (c .before .before .before .bottom .result)) (2 * x) (s .args .e)) (c .before .number .ensures .0) ∙ bottom-told (s .pre .0) (s .args .e) (s .pre .1) (c .before .before .before .before .at .ensures) (c .before .before .is-up .ensures) (c .before .before .before .bottom .ensures)
+returns c =
+    let h = c .before .before .before in
+    let a = h .before .before in
+    let s = a .before in
+    c .word .ensures ∙ rw (c .before .before .lower .ensures, c .before .number .ensures .0) (bottom-told (s .pre .0) (s .args .e) (s .pre .1) (a .at .ensures) (h .before .of-tail .ensures) (h .of-head .ensures))
 
 pub bottom-word-spec : {M : Type 1} → statement M
 bottom-word-spec =
     tie.close
-    (tie.spec (search needs) (search needs) (search needs) (search needs) (search needs) word-requires returns)
+    (tie.spec (search needs) (search needs) (search needs) (search needs) (search needs) (search needs) word-requires returns)
