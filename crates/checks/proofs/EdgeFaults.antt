@@ -1,36 +1,26 @@
--- 5, 16, 6 and 7 at an edge. Tested by itself or against the edge before it, an edge has a fault where the answer sheet says so: no point of the range
--- is below the lowest one, which stands before the first edge. An edge without a fault has two ends, both in the range, a film, and a top that does not fall.
+-- 5, 16, 6 and 7 at an edge. Tested by itself, or by the ranks of its ends and of the top before, an edge has a fault where the answer sheet says so.
+-- An edge without a fault has two ends, both in the range, a film, and a top that does not fall.
 use mathlib.Core.Path.{_≡_, refl, sym, ap, _∙_}
 use mathlib.Core.Bool.{Bool, true, false, cond, _||_}
 use mathlib.Core.List.{List}
-use Prim.Native.Nat.{ℕ, zero, suc, _+_, _≤_, _<_}
+use Prim.Native.Nat.{ℕ, zero, suc, _+_, _<_, max}
 use native.Mathlib.Numerals.{add-one}
-use lib.Dec.{leb}
-use lib.IntN.{ℤ, pos, negsuc}
-use lib.Signed.{ltZ}
-use borrow.Author.Tests.{le-ltb, leb-true}
+use native.Mathlib.Omega.{arith}
+use lib.Dec.{eqb, ltb}
+use lib.IntN.{ℤ}
+use borrow.Author.Tests.{le-ltb}
 use Rattle.laws.proofs.Deciding.{both-true, neither-true}
 use Rattle.laws.proofs.Tests.{not-false}
-use Rattle.sheet.specs.declared.Point.{Point}
+use Rattle.laws.proofs.Searching.{NoneBelow}
 use Rattle.sheet.specs.declared.Edge.{Edge}
-use Rattle.sheet.specs.Points.{sameZ, within, inRange, isFilm, isSame, isBelow, isUp, topOf}
+use Rattle.sheet.specs.Points.{inRange, isFilm, isSame, isUp, topOf}
+use Rattle.sheet.specs.Rank.{rank}
 use Rattle.sheet.specs.Edges.{edgeAt}
 use Rattle.sheet.specs.Answers.{pastRange, filmPastRange, equalEnds, topFalls, edgeFault}
-use Rattle.checks.specs.Faults.{endPastRange, filmPast, endsEqual, faultAlone, topBelow, beforeFirst, faultAfter, edgeBefore, EndsFit}
+use Rattle.sheet.proofs.Ranks.{rank-below, rank-same}
+use Rattle.checks.specs.Faults.{endPastRange, filmPast, limitsPassed, endsEqual, faultAlone, topBefore, EndsFit}
 use Rattle.checks.specs.Stages.{edgeFaultAlone}
-
-not-under : (z : ℤ) → within z ≡ true → ltZ z (negsuc 999999) ≡ false
-unfolding within
-not-under (pos n) h = refl
-not-under (negsuc n) h = let l : n ≤ 999999 = leb-true _ _ (both-true (leb n 999999) true h .0) in le-ltb 999999 n l
-
-not-below-lowest : (p : Point) → inRange p ≡ true → isBelow p (topOf beforeFirst) ≡ false
-unfolding inRange isBelow topOf isUp sameZ
-not-below-lowest p h = let w = both-true (within (p .x)) (within (p .y)) h in by (sameZ (p .y) (negsuc 999999)) (not-under (p .x) (w .0)) (not-under (p .y) (w .1))
-  where
-    by : (t : Bool) {a b : Bool} → a ≡ false → b ≡ false → cond t a b ≡ false
-    by true x y = x
-    by false x y = y
+use Rattle.checks.proofs.EdgeRanks.{top-by-rank}
 
 -- with both ends in the range the top is, whichever it is
 pub top-in-range : (e : Edge) → inRange (e .tail) ≡ true → inRange (e .head) ≡ true → inRange (topOf e) ≡ true
@@ -41,50 +31,26 @@ top-in-range e t h = by (isUp e)
     by true = h
     by false = t
 
-ends-in-range : (e : Edge) → endPastRange e ≡ false → (inRange (e .tail) ≡ true) × (inRange (e .head) ≡ true)
-unfolding endPastRange
-ends-in-range e h = both-true (inRange (e .tail)) (inRange (e .head)) (not-false _ h)
+or-assoc : (a b c : Bool) → ((a || b) || c) ≡ (a || (b || c))
+or-assoc true b c = refl
+or-assoc false b c = refl
 
 -- an edge by itself has a fault where the answer sheet says so
 alone-fault : (s : List ℤ) (e : ℕ) → faultAlone (edgeAt s e) ≡ edgeFaultAlone s e
-unfolding faultAlone endPastRange pastRange filmPastRange equalEnds
-alone-fault s e = refl
-
--- 7 is tried last
-seven-last : (past film equal below : Bool) → ((past || (film || equal)) || below) ≡ (past || (film || (equal || below)))
-seven-last true film equal below = refl
-seven-last false true equal below = refl
-seven-last false false equal below = refl
-
--- the top of the first edge is not below the lowest point, unless it is out of the range
-top-after : (s : List ℤ) (e : ℕ) → pastRange s e ≡ false → topBelow (edgeAt s e) (edgeBefore s e) ≡ topFalls s e
-unfolding edgeBefore topFalls endPastRange pastRange
-top-after s zero h = let w = ends-in-range (edgeAt s 0) h in not-below-lowest _ (top-in-range (edgeAt s 0) (w .0) (w .1))
-top-after s (suc e) h = refl
-
-pub fault-after : (s : List ℤ) (e : ℕ) → faultAfter (edgeBefore s e) (edgeAt s e) ≡ edgeFault s e
-unfolding faultAfter
-fault-after s e = ap (λ (b : Bool). b || topBelow (edgeAt s e) (edgeBefore s e)) (alone-fault s e) ∙ seven-last (pastRange s e) (filmPastRange s e) (equalEnds s e) _ ∙ by (pastRange s e) (filmPastRange s e) (equalEnds s e) (top-after s e)
-  where
-    by : (past film equal : Bool) {below falls : Bool} → (past ≡ false → below ≡ falls) → (past || (film || (equal || below))) ≡ (past || (film || (equal || falls)))
-    by true film equal h = refl
-    by false film equal h = ap (λ (b : Bool). film || (equal || b)) (h refl)
-
--- the edge before the next one
-pub edge-before-next : (s : List ℤ) (e : ℕ) → edgeBefore s (e + 1) ≡ edgeAt s e
-unfolding edgeBefore
-edge-before-next s e = rw add-one
+unfolding faultAlone limitsPassed endPastRange pastRange filmPastRange equalEnds
+alone-fault s e = or-assoc (endPastRange (edgeAt s e)) (filmPast (edgeAt s e)) (endsEqual (edgeAt s e))
 
 -- what the tests answer of an edge that was read
 module _ (s : List ℤ) (e : ℕ) {edge : Edge} {r : Bool} (read : edge ≡ edgeAt s e) where
   told : (test : Edge → Bool) → r ≡ test edge → test (edgeAt s e) ≡ r
   told test h = ap test (sym read) ∙ sym h
 
-  pub fault-told : {before : Edge} → before ≡ edgeBefore s e → r ≡ faultAfter before edge → edgeFault s e ≡ r
-  fault-told b h = sym (fault-after s e) ∙ ap (λ (f : Edge). faultAfter f (edgeAt s e)) (sym b) ∙ told (faultAfter _) h
-
   pub alone-told : r ≡ faultAlone edge → edgeFaultAlone s e ≡ r
   alone-told h = sym (alone-fault s e) ∙ told faultAlone h
+
+  pub limits-told : r ≡ limitsPassed edge → (pastRange s e || filmPastRange s e) ≡ r
+  unfolding limitsPassed pastRange endPastRange filmPastRange
+  limits-told h = told limitsPassed h
 
   pub past-told : r ≡ endPastRange edge → pastRange s e ≡ r
   unfolding pastRange endPastRange
@@ -112,14 +78,50 @@ none-of s e none =
     let d = neither-true (equalEnds s e) _ (b .1) in
     (a .0, b .0, d .0, d .1)
 
+pub past-fault : (s : List ℤ) (e : ℕ) → (pastRange s e || filmPastRange s e) ≡ true → edgeFault s e ≡ true
+past-fault s e h = sym (or-assoc (pastRange s e) (filmPastRange s e) (equalEnds s e || topFalls s e)) ∙ rw h
+
+in-range-of : (s : List ℤ) (e : ℕ) → pastRange s e ≡ false → (inRange (edgeAt s e .tail) ≡ true) × (inRange (edgeAt s e .head) ≡ true)
+unfolding pastRange
+in-range-of s e h = both-true (inRange (edgeAt s e .tail)) (inRange (edgeAt s e .head)) (not-false _ h)
+
+top-in : (s : List ℤ) (e : ℕ) → pastRange s e ≡ false → inRange (topOf (edgeAt s e)) ≡ true
+top-in s e h = let w = in-range-of s e h in top-in-range (edgeAt s e) (w .0) (w .1)
+
+-- 7 by ranks: the edge before has no fault, so its top is in the range
+falls-by-rank : (s : List ℤ) (e : ℕ) → NoneBelow (edgeFault s) e → pastRange s e ≡ false → topFalls s e ≡ ltb (rank (topOf (edgeAt s e))) (topBefore s e)
+unfolding topFalls topBefore
+falls-by-rank s zero none h = sym (le-ltb (rank (topOf (edgeAt s 0))) 0 (omega arith))
+falls-by-rank s (suc e) none h = rank-below (topOf (edgeAt s (suc e))) (topOf (edgeAt s e)) (top-in s (suc e) h) (top-in s e (none-of s e (none e (omega arith)) .0))
+
+-- 6 and 7 of an edge that has neither 5 nor 16, by the ranks of its ends and of the top before
+module _ (s : List ℤ) (e : ℕ) (limits : (pastRange s e || filmPastRange s e) ≡ false) {edge : Edge} (read : edge ≡ edgeAt s e) {t h u : ℕ} (tail-rank : t ≡ rank (edge .tail)) (head-rank : h ≡ rank (edge .head)) (top : u ≡ max t h) where
+  within-limits : (pastRange s e ≡ false) × (filmPastRange s e ≡ false)
+  within-limits = neither-true (pastRange s e) (filmPastRange s e) limits
+
+  ends-in : (inRange (edgeAt s e .tail) ≡ true) × (inRange (edgeAt s e .head) ≡ true)
+  ends-in = in-range-of s e (within-limits .0)
+
+  top-rank : u ≡ rank (topOf (edgeAt s e))
+  top-rank = rw (top, tail-rank, head-rank, read) (sym (top-by-rank (edgeAt s e) (ends-in .0) (ends-in .1)))
+
+  equal-by-rank : equalEnds s e ≡ eqb t h
+  unfolding equalEnds
+  equal-by-rank = rw (tail-rank, head-rank, read) (rank-same (edgeAt s e .tail) (edgeAt s e .head) (ends-in .0) (ends-in .1))
+
+  pub fault-by-ranks : {l : ℕ} → l ≡ topBefore s e → NoneBelow (edgeFault s) e → edgeFault s e ≡ (eqb t h || ltb u l)
+  fault-by-ranks last none = rw (within-limits .0, within-limits .1, equal-by-rank, top-rank, last) (ap (λ (b : Bool). eqb t h || b) (falls-by-rank s e none (within-limits .0)))
+
+  pub top-next : u ≡ topBefore s (e + 1)
+  unfolding topBefore
+  top-next = rw add-one top-rank
+
 module _ {s : List ℤ} {n : ℕ} (E : EndsFit s n) (e : ℕ) (l : e < n) where
   pub tail-in : inRange (edgeAt s e .tail) ≡ true
-  unfolding pastRange endPastRange
-  tail-in = ends-in-range (edgeAt s e) (E .in-range e l) .0
+  tail-in = in-range-of s e (E .in-range e l) .0
 
   pub head-in : inRange (edgeAt s e .head) ≡ true
-  unfolding pastRange endPastRange
-  head-in = ends-in-range (edgeAt s e) (E .in-range e l) .1
+  head-in = in-range-of s e (E .in-range e l) .1
 
   pub film-in : isFilm (edgeAt s e .film) ≡ true
   unfolding filmPastRange

@@ -1,14 +1,15 @@
--- 5, 16, 6 and 7 said of one edge and the edge before it, and the lists that the places can be told of.
+-- 5, 16 and 6 said of one edge, what 7 compares its top with, and the lists that the places can be told of.
 use mathlib.Core.Path.{_≡_}
 use mathlib.Core.Bool.{Bool, false, not, cond, _&&_, _||_}
 use mathlib.Core.List.{List}
 use Prim.Native.Nat.{ℕ, zero, suc, _*_, _≤_, _<_}
-use lib.IntN.{ℤ, pos, negsuc}
+use lib.IntN.{ℤ}
 use lib.ListN.{length}
 use Rattle.sheet.specs.declared.Edge.{Edge}
 use Rattle.sheet.specs.declared.Refusal.{Refusal}
 use Rattle.sheet.specs.declared.Refusal.the-variants.{PastRange, FilmPastRange, EqualEnds, TopFalls}
-use Rattle.sheet.specs.Points.{inRange, isFilm, isSame, isBelow, topOf}
+use Rattle.sheet.specs.Points.{inRange, isFilm, isSame, topOf}
+use Rattle.sheet.specs.Rank.{rank}
 use Rattle.sheet.specs.Edges.{edgeAt, edgesIn}
 use Rattle.sheet.specs.Answers.{pastRange, filmPastRange, equalEnds}
 use Rattle.sheet.specs.Amounts.{numbersPerEdge, mostEdges}
@@ -19,25 +20,19 @@ endPastRange e = not (inRange (e .tail) && inRange (e .head))
 abbrev pub filmPast : Edge → Bool
 filmPast e = not (isFilm (e .film))
 
+unfoldable pub limitsPassed : Edge → Bool
+limitsPassed e = endPastRange e || filmPast e
+
 abbrev pub endsEqual : Edge → Bool
 endsEqual e = isSame (e .tail) (e .head)
 
-abbrev pub topBelow : Edge → Edge → Bool
-topBelow e before = isBelow (topOf e) (topOf before)
-
 unfoldable pub faultAlone : Edge → Bool
-faultAlone e = endPastRange e || (filmPast e || endsEqual e)
+faultAlone e = limitsPassed e || endsEqual e
 
-unfoldable pub faultAfter : Edge → Edge → Bool
-faultAfter before e = faultAlone e || topBelow e before
-
--- what stands before the first edge: both ends at the lowest point of the range
-abbrev pub beforeFirst : Edge
-beforeFirst = record { tail = record { x = negsuc 999999; y = negsuc 999999 }; head = record { x = negsuc 999999; y = negsuc 999999 }; film = pos 0 }
-
-unfoldable pub edgeBefore : List ℤ → ℕ → Edge
-edgeBefore s zero = beforeFirst
-edgeBefore s (suc e) = edgeAt s e
+-- the rank of the top of the edge before; 0, which no rank is lower than, before the first edge
+unfoldable pub topBefore : List ℤ → ℕ → ℕ
+topBefore s zero = 0
+topBefore s (suc e) = rank (topOf (edgeAt s e))
 
 -- at an edge, 5 is tried before 16, 16 before 6 and 6 before 7
 abbrev pub firstRefusal : Bool → Bool → Bool → ℕ → Refusal

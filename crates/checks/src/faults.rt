@@ -1,7 +1,7 @@
 // 5, 16, 6 and 7: what is wrong with one edge, or with its top after the top of the edge before.
+use crate::ranks;
 use sheet::Check;
 use sheet::Edge;
-use sheet::Point;
 use sheet::Refusal;
 ghost use mathlib.Core.Path.{_≡_};
 ghost use Prim.Native.Nat.{_+_, _*_, _<_, _≤_};
@@ -9,12 +9,12 @@ ghost use lib.ListN.{length};
 ghost use Rattle.laws.specs.Counting.{first};
 ghost use Rattle.sheet.specs.Edges.{edgesIn};
 ghost use Rattle.sheet.specs.Answers.{edgeFault, faultOf};
-ghost use Rattle.checks.specs.Faults.{endPastRange, filmPast, endsEqual, faultAlone, topBelow, beforeFirst, faultAfter, firstRefusal};
+ghost use Rattle.checks.specs.Faults.{endPastRange, filmPast, limitsPassed, endsEqual, faultAlone, firstRefusal};
 ghost use Rattle.checks.specs.Stages.{edgeFaultAlone, edgesChecked, edgesAloneChecked};
 ghost use Rattle.sheet.specs.Amounts.{numbersPerEdge, mostEdges};
 
 // 5: an end is out of the range.
-pub fn past_range(edge: Edge) -> bool
+fn past_range(edge: Edge) -> bool
     ensures { λ r. ⌜ r ≡ endPastRange edge ⌝ }
 {
     let tail = edge.tail;
@@ -26,14 +26,14 @@ pub fn past_range(edge: Edge) -> bool
 }
 
 // 16: the film is out of its range.
-pub fn film_past_range(edge: Edge) -> bool
+fn film_past_range(edge: Edge) -> bool
     ensures { λ r. ⌜ r ≡ filmPast edge ⌝ }
 {
     !edge.film_in_range()
 }
 
 // 6: both ends are one point.
-pub fn equal_ends(edge: Edge) -> bool
+fn equal_ends(edge: Edge) -> bool
     ensures { λ r. ⌜ r ≡ endsEqual edge ⌝ }
 {
     let tail = edge.tail;
@@ -41,66 +41,49 @@ pub fn equal_ends(edge: Edge) -> bool
     tail.same(head)
 }
 
-// 7: the top is below that of the edge before.
-pub fn top_falls(edge: Edge, before: Edge) -> bool
-    ensures { λ r. ⌜ r ≡ topBelow edge before ⌝ }
+// Whether an edge has 5 or 16.
+fn past_limits(edge: Edge) -> bool
+    ensures { λ r. ⌜ r ≡ limitsPassed edge ⌝ }
 {
-    let top = edge.top();
-    let last = before.top();
-    top.below(last)
+    if past_range(edge) {
+        return true;
+    }
+    film_past_range(edge)
 }
 
 // Whether an edge has 5, 16 or 6.
 fn alone_at_fault(edge: Edge) -> bool
     ensures { λ r. ⌜ r ≡ faultAlone edge ⌝ }
 {
-    if past_range(edge) {
-        return true;
-    }
-    if film_past_range(edge) {
+    if past_limits(edge) {
         return true;
     }
     equal_ends(edge)
 }
 
-// Whether an edge that stands after another has 5, 16, 6 or 7.
-fn has_fault(edge: Edge, before: Edge) -> bool
-    ensures { λ r. ⌜ r ≡ faultAfter before edge ⌝ }
-{
-    if alone_at_fault(edge) {
-        return true;
-    }
-    top_falls(edge, before)
-}
-
-// What stands before the first edge: its top is the lowest point, which no point of the range is below.
-fn before_first() -> Edge
-    ensures { λ r. ⌜ r ≡ beforeFirst ⌝ }
-{
-    let lowest = Point {
-        x: Point::LEAST,
-        y: Point::LEAST,
-    };
-    Edge {
-        tail: lowest,
-        head: lowest,
-        film: 0,
-    }
-}
-
-// The first of n edges with 5, 16, 6 or 7, n where there is none.
+// The first of n edges with 5, 16, 6 or 7, n where there is none. Of an edge within the limits 6 and 7 are told by ranks: both ends have one, or the top's
+// is lower than that of the top before. No rank is lower than 0, which stands before the first edge.
 fn first_fault(edges: &[i32], n: usize) -> usize
     requires { ⌜ numbersPerEdge * n ≤ length (now edges) ⌝ }
     ensures { λ r. ⌜ r ≡ first (edgeFault (now (edges .entry))) n ⌝ }
 {
-    let mut before = before_first();
+    let mut last: u64 = 0;
     let mut e: usize = 0;
     while e < n {
         let edge = Edge::at(edges, e);
-        if has_fault(edge, before) {
+        if past_limits(edge) {
             return e;
         }
-        before = edge;
+        let tail = ranks::of_tail(edge);
+        let head = ranks::of_head(edge);
+        if tail == head {
+            return e;
+        }
+        let top = ranks::higher(tail, head);
+        if top < last {
+            return e;
+        }
+        last = top;
         e += 1;
     }
     n
