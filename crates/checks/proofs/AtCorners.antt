@@ -190,6 +190,13 @@ lowTurn s words a = turnIn s (edgeIn words (a + 3)) (edgeIn words (a + 1))
 abbrev pub highTurn : List ℤ → List ℕ → ℕ → Sign
 highTurn s words a = turnIn s (edgeIn words (a + 2)) (edgeIn words a)
 
+-- what is told of the turns between four edges that were read
+pub alternate-told : (s : List ℤ) (words : List ℕ) (a : ℕ) {i j k l : ℕ} {r : Bool} → i ≡ edgeIn words (a + 3) → j ≡ edgeIn words (a + 1) → k ≡ edgeIn words (a + 2) → l ≡ edgeIn words a → r ≡ alike (turnIn s i j) (turnIn s k l) → alike (lowTurn s words a) (highTurn s words a) ≡ r
+alternate-told s words a p q u v h = (λ i. alike (turnIn s (sym p i) (sym q i)) (turnIn s (sym u i) (sym v i))) ∙ sym h
+
+pub parts-told : (s : List ℤ) (words : List ℕ) (a : ℕ) {i j : ℕ} {r : Bool} → i ≡ edgeIn words (a + 3) → j ≡ edgeIn words (a + 1) → r ≡ isSign (turnIn s i j) plus → isSign (lowTurn s words a) plus ≡ r
+parts-told s words a p q h = (λ i. isSign (turnIn s (sym p i) (sym q i)) plus) ∙ sym h
+
 module _ {s : List ℤ} {words : List ℕ} {n a : ℕ} (S : SoundEnds s words n) (P : AtPlace words (2 * n) a (a + 4)) where
   is-corner : (w : Way) (c : From) → cornerAt (drawingOf s) (placeIn words a) w c ≡ along (drawingOf s) w (edgeIn words (a + kindNumber w c))
   unfolding cornerAt drawingOf

@@ -163,9 +163,8 @@ module _ {s : List ℤ} {words : List ℕ} {n : ℕ} (S : SoundEnds s words n) w
       pub joined-step : {found : ℕ} {marks : List ℕ} → isSign (lowTurn s words a) plus ≡ false → CornersSoFar s words n a found marks → CornersSoFar s words n (a + 4) found marks
       joined-step h C = nothing-more P untangled (parts-is S P alternate ∙ h) C
 
-      pub apart-step : {found : ℕ} {marks : List ℕ} → isSign (lowTurn s words a) plus ≡ true → CornersSoFar s words n a found marks
-          → CornersSoFar s words n (a + 4) found (set (set marks (edgeIn words (a + 3)) 1) (edgeIn words (a + 1)) 1)
-      apart-step h C = marked-more P (four-ends S P) untangled (parts-is S P alternate ∙ h) C
+      pub apart-step : {found x y : ℕ} {marks : List ℕ} → x ≡ edgeIn words (a + 3) → y ≡ edgeIn words (a + 1) → isSign (lowTurn s words a) plus ≡ true → CornersSoFar s words n a found marks → CornersSoFar s words n (a + 4) found (set (set marks x 1) y 1)
+      apart-step p q h C = rw (p, q) (marked-more P (four-ends S P) untangled (parts-is S P alternate ∙ h) C)
 
   -- after the last place
   pub all-marked : {found : ℕ} {marks : List ℕ} → CornersSoFar s words n (2 * n) found marks → Marked s marks

@@ -1,10 +1,12 @@
 -- `checks::corners::at_four` meets its contract: the four ends stand by kind, and the turns below and above say what the place is.
-use mathlib.Core.Path.{sym, _∙_}
+use mathlib.Core.Path.{_≡_, _∙_}
 use native.Mathlib.Omega.{arith}
 use lib.ListN.{length-set}
 use borrow.Author.Needs.{needs}
 use Rattle.laws.proofs.Tests.{not-true, not-false}
-use Rattle.checks.proofs.AtCorners.{meets-below, meets-above}
+use Rattle.sheet.specs.Turning.{plus, isSign}
+use Rattle.corner.specs.Turns.{alike}
+use Rattle.checks.proofs.AtCorners.{meets-below, meets-above, lowTurn, highTurn, alternate-told, parts-told}
 use Rattle.checks.proofs.CornersMarked.{tangled-step, joined-step, apart-step}
 use Rattle.checks.proofs.corners.at_four.Statement.{statement}
 use Rattle.checks.proofs.corners.at_four.Tie as tie
@@ -21,17 +23,24 @@ alternate-requires c κs =
       c .before .before .before .before .before .before .edge-of .ensures,
     ) ((s .pre .0 .0 .fit, b .0, b .1, b .2), (a .0, a .1, a .2))
 
+-- whether the four alternate, and whether the lower two part, as it was told of the edges that were read
+alternates : (c : tie.After-alternate) → let s = c .before .before .before .before .before .before .before .before .before .before .before in alike (lowTurn (s .args .edges .now) (s .args .words .now) (s .args .from)) (highTurn (s .args .edges .now) (s .args .words .now) (s .args .from)) ≡ c .alternate .result
+alternates c =
+    let e = c .before in
+    let s = e .before .before .before .before .before .before .before .before .before .before in
+    alternate-told (s .args .edges .now) (s .args .words .now) (s .args .from) (e .before .before .before .before .before .before .edge-of .ensures) (e .before .before .before .before .edge-of2 .ensures) (e .before .before .edge-of3 .ensures) (e .edge-of4 .ensures) (c .alternate .ensures)
+
+lower-parts : (c : tie.After-parts) → let s = c .before .before .before .before .before .before .before .before .before .before .before .before .before in isSign (lowTurn (s .args .edges .now) (s .args .words .now) (s .args .from)) plus ≡ c .parts .result
+lower-parts c =
+    let e = c .before .before .before in
+    let s = e .before .before .before .before .before .before .before .before .before .before in
+    parts-told (s .args .edges .now) (s .args .words .now) (s .args .from) (e .before .before .before .before .before .before .edge-of .ensures) (e .before .before .before .before .edge-of2 .ensures) (c .parts .ensures)
+
 returns : tie.Need-returns
 returns c =
     let l = c .before .before .before in
-    let e = l .before in
-    let s = e .before .before .before .before .before .before .before .before .before .before in
-    rw (c .lower-of .ensures) (tangled-step (s .pre .0 .0) (s .pre .0 .1) (rw (
-      e .edge-of4 .ensures,
-      e .before .before .edge-of3 .ensures,
-      e .before .before .before .before .edge-of2 .ensures,
-      e .before .before .before .before .before .before .edge-of .ensures,
-    ) at (sym (l .alternate .ensures) ∙ not-true _ (c .before .before .if1 .taken))) (c .before .least-edge .ensures) (s .pre .1))
+    let s = l .before .before .before .before .before .before .before .before .before .before .before in
+    rw (c .lower-of .ensures) (tangled-step (s .pre .0 .0) (s .pre .0 .1) (alternates l ∙ not-true _ (c .before .before .if1 .taken)) (c .before .least-edge .ensures) (s .pre .1))
 
 parts-requires : tie.Need-parts-requires
 parts-requires c κs =
@@ -42,19 +51,9 @@ parts-requires c κs =
 
 returns-2 : tie.Need-returns-2
 returns-2 c =
-    let p = c .before in
-    let l = p .before .before in
-    let e = l .before in
-    let s = e .before .before .before .before .before .before .before .before .before .before in
-    joined-step (s .pre .0 .0) (s .pre .0 .1) (rw (
-      e .edge-of4 .ensures,
-      e .before .before .edge-of3 .ensures,
-      e .before .before .before .before .edge-of2 .ensures,
-      e .before .before .before .before .before .before .edge-of .ensures,
-    ) at (sym (l .alternate .ensures) ∙ not-false _ (p .before .if1 .left))) (rw (
-      e .before .before .before .before .edge-of2 .ensures,
-      e .before .before .before .before .before .before .edge-of .ensures,
-    ) at (sym (p .parts .ensures) ∙ not-true _ (c .if2 .taken))) (s .pre .1)
+    let l = c .before .before .before in
+    let s = l .before .before .before .before .before .before .before .before .before .before .before in
+    joined-step (s .pre .0 .0) (s .pre .0 .1) (alternates l ∙ not-false _ (c .before .before .if1 .left)) (lower-parts (c .before) ∙ not-true _ (c .if2 .taken)) (s .pre .1)
 
 slice-write-apart : tie.Need-slice-write-apart
 slice-write-apart c =
@@ -71,13 +70,10 @@ slice-write-apart-2 c =
 
 returns-3 : tie.Need-returns-3
 returns-3 c =
-    let p = c .before in
-    let l = p .before .before in
+    let l = c .before .before .before in
     let e = l .before in
     let s = e .before .before .before .before .before .before .before .before .before .before in
-    let low = e .before .before .before .before .edge-of2 .ensures in
-    let from-low = e .before .before .before .before .before .before .edge-of .ensures in
-    rw (low, from-low) (apart-step (s .pre .0 .0) (s .pre .0 .1) (rw (e .edge-of4 .ensures, e .before .before .edge-of3 .ensures, low, from-low) at (sym (l .alternate .ensures) ∙ not-false _ (p .before .if1 .left))) (rw (low, from-low) at (sym (p .parts .ensures) ∙ not-false _ (c .if2 .left))) (s .pre .1))
+    apart-step (s .pre .0 .0) (s .pre .0 .1) (alternates l ∙ not-false _ (c .before .before .if1 .left)) (e .before .before .before .before .before .before .edge-of .ensures) (e .before .before .before .before .edge-of2 .ensures) (lower-parts (c .before) ∙ not-false _ (c .if2 .left)) (s .pre .1)
 
 pub at-four-spec : {M : Type 1} → statement M
 at-four-spec =
