@@ -4,7 +4,3 @@ pub mod Tips
 pub mod Searching
 pub mod Looking
 pub mod Writing
-pub mod Noting
-pub mod InUse
-pub mod Owners
-pub mod Indexing

@@ -12,7 +12,7 @@ use lib.ListN.{length, getD}
 use lib.Signed.{leZ, ltZ, mag}
 use mir.Syntax.{w32}
 use mir.Val.{toZ, ofZ}
-use borrow.Author.Tests.{lt-ltb, le-ltb, le-leb, lt-leb, leb-true, leb-false, eqb-true, ne-eqb}
+use borrow.Author.Tests.{lt-ltb, le-ltb, le-leb, lt-leb, leb-true, leb-false, eqb-true}
 use Rattle.laws.proofs.Bits.{read-back}
 use Rattle.laws.proofs.Deciding.{lt-or-le, not-both, both-true}
 use Rattle.laws.specs.Counting.{first}
@@ -27,11 +27,6 @@ use Rattle.steps.proofs.Alone.{Alone}
 use Rattle.rows.specs.declared.Place.{Place}
 use Rattle.rows.specs.Layout.{filmPlaces, HasRow, lookRow, hasTipIn, rowSlice}
 use Rattle.steps.specs.Swept.{numbersPerRow}
-use Rattle.rows.specs.Index.{foundBy}
-
--- what a search's number tells
-pub found-row : (r : ℕ) → (r ≡ 18446744073709551615 → ⊥) → foundBy r ≡ At r
-found-row r d = rw (ne-eqb r 18446744073709551615 d)
 
 -- a search that stops at m, past which no number below n passes
 module _ (p : ℕ → Bool) (n m : ℕ) (l : m ≤ n) where

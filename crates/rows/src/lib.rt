@@ -1,9 +1,6 @@
 // Rows in the lent slice. Only this crate knows how a row lies in its eight numbers: specs/Layout.antt says it, and the functions here are proved
 // equal to what the steps do with a table of rows laid out so. Searches stop at the peak, above which no row was ever open. What spares them looks at
 // rows lies beside the slice: an index of tips, and notes of the rows in use.
-pub mod free;
-pub mod index;
-
 use sheet::Point;
 use steps::Side;
 ghost use mathlib.Core.Path.{_≡_};
@@ -37,7 +34,7 @@ pub fn rows_in(rows: &[i32]) -> usize
 }
 
 // Where a branch's numbers start.
-fn branch_at(rows: &[i32], r: usize, side: Side) -> usize
+pub fn branch_at(rows: &[i32], r: usize, side: Side) -> usize
     requires { ⌜ HasRow (now rows) r ⌝ }
     ensures { λ b. ⌜ (b ≡ branchAt side r) × (b + 3 < length (now (rows .entry))) ⌝ }
 {
@@ -49,7 +46,7 @@ fn branch_at(rows: &[i32], r: usize, side: Side) -> usize
 
 // Whether a row is in use and of the level, and its branch on the side is unfinished with its tip at the place. Level and finished mark come first, then the height:
 // x and film are looked at only where that agrees.
-fn has_tip(rows: &[i32], r: usize, level: u32, side: Side, tip: Place) -> bool
+pub fn has_tip(rows: &[i32], r: usize, level: u32, side: Side, tip: Place) -> bool
     requires { ⌜ HasRow (now rows) r × (level < 2147483647) ⌝ }
     ensures { λ t. ⌜ t ≡ hasTipIn (now (rows .entry)) level side tip r ⌝ }
 {
@@ -137,7 +134,7 @@ pub fn free_row(rows: &mut [i32], r: usize)
 }
 
 // The level that the first number of a row in use tells.
-fn level_in(z: i32) -> u32
+pub fn level_in(z: i32) -> u32
     requires { ⌜ ltZ (pos 0) z ≡ true ⌝ }
     ensures { λ n. ⌜ n ≡ levelIn z ⌝ }
 {

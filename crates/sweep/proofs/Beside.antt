@@ -17,11 +17,11 @@ use Rattle.steps.specs.Plain.{withBranch}
 use Rattle.steps.specs.SweepUp as up
 use Rattle.rows.specs.declared.Place.{Place}
 use Rattle.rows.specs.Layout.{onFilm, filmIn, HasRow, lookRow, openedIn, movedIn}
-use Rattle.rows.specs.Free.{peakIn, InUse, takenIn}
-use Rattle.rows.specs.Index.{tipOf, numberedIn, markedIn, Tips, none, only, Long, Indexed}
+use Rattle.finding.specs.Free.{peakIn, InUse, takenIn}
+use Rattle.finding.specs.Index.{tipOf, numberedIn, markedIn, Tips, none, only, Long, Indexed}
 use Rattle.rows.proofs.Writing.{opened-here, moved-here}
-use Rattle.rows.proofs.InUse.{length-taken, taken-keeps, in-use-counted, in-use-moved, in-use-opened}
-use Rattle.rows.proofs.Indexing.{numbered-size, indexed-opened, indexed-moved, indexed-marked, indexed-counted}
+use Rattle.finding.proofs.InUse.{length-taken, taken-keeps, in-use-counted, in-use-moved, in-use-opened}
+use Rattle.finding.proofs.Indexing.{numbered-size, indexed-opened, indexed-moved, indexed-marked, indexed-counted}
 use Rattle.sweep.proofs.Rooms.{not-done}
 use Rattle.sweep.specs.declared.NamedEdge.{NamedEdge}
 use Rattle.sweep.specs.Slices.{edgeOf, numberBelow, progress}

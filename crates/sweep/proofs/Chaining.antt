@@ -20,12 +20,12 @@ use Rattle.steps.specs.Swept.{rowsIn}
 use Rattle.steps.specs.Plain.{newRow}
 use Rattle.rows.specs.declared.Place.{Place}
 use Rattle.rows.specs.Layout.{filmPlaces, filmIn, lookRow, hasTipIn, openedIn}
-use Rattle.rows.specs.Free.{peakIn, InUse}
-use Rattle.rows.specs.Index.{slotOf, ownerIn, told, tipOf, none, Indexed}
+use Rattle.finding.specs.Free.{peakIn, InUse}
+use Rattle.finding.specs.Index.{slotOf, ownerIn, told, tipOf, none, Indexed}
 use Rattle.rows.proofs.Looking.{tip-is}
 use Rattle.rows.proofs.Searching.{tip-parts, tip-has-row}
 use Rattle.rows.proofs.Writing.{opened-here}
-use Rattle.rows.proofs.Indexing.{but-more, found-by-number, told-at}
+use Rattle.finding.proofs.Indexing.{but-more, found-by-number, told-at}
 use Rattle.sweep.specs.declared.NamedEdge.{NamedEdge}
 use Rattle.sweep.specs.Slices.{edgeOf, numberBelow, progress}
 use Rattle.sweep.specs.Treated.{Numbered, Opened, Chained}

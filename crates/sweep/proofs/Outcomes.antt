@@ -21,12 +21,12 @@ use Rattle.steps.specs.SweepUp.{State}
 use Rattle.steps.specs.Swept.{rowsIn}
 use Rattle.rows.specs.declared.Place.{Place}
 use Rattle.rows.specs.Layout.{filmPlaces, HasRow, filmIn, lookRow, hasTipIn, finishedIn, freedIn}
-use Rattle.rows.specs.Free.{peakIn, givenBackIn}
-use Rattle.rows.specs.Index.{slotOf, tipAt, tipOf, ownerIn, markedIn, told, none, only, Long, Indexed}
+use Rattle.finding.specs.Free.{peakIn, givenBackIn}
+use Rattle.finding.specs.Index.{slotOf, tipAt, tipOf, ownerIn, markedIn, told, none, only, Long, Indexed}
 use Rattle.rows.proofs.Searching.{tip-has-row}
 use Rattle.rows.proofs.Writing.{finished-only, freed-only}
-use Rattle.rows.proofs.InUse.{given-back-keeps, in-use-finished, in-use-freed}
-use Rattle.rows.proofs.Indexing.{but-more, found-by-number, told-at, indexed-marked, indexed-finished, indexed-freed}
+use Rattle.finding.proofs.InUse.{given-back-keeps, in-use-finished, in-use-freed}
+use Rattle.finding.proofs.Indexing.{but-more, found-by-number, told-at, indexed-marked, indexed-finished, indexed-freed}
 use Rattle.sweep.specs.declared.NamedEdge.{NamedEdge}
 use Rattle.sweep.specs.Slices.{lentRoom, state, edgeOf, numberBelow, progress, isDone}
 use Rattle.sweep.specs.Treated.{Numbered, Recorded, Slices, slices, stateOf, Good, Chained, Attached, Met, Treated}

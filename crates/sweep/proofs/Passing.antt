@@ -12,7 +12,7 @@ use Rattle.steps.specs.SweepUp as up
 use Rattle.steps.specs.SweepUp.{State, bothFinished}
 use Rattle.rows.specs.declared.Place.{Place}
 use Rattle.rows.specs.Layout.{lookRow}
-use Rattle.rows.specs.Free.{peakIn}
+use Rattle.finding.specs.Free.{peakIn}
 use Rattle.sweep.specs.Slices.{lentRoom, state, progress, isDone}
 use Rattle.sweep.specs.Treated.{Slices, slices, stateOf, Treated}
 use Rattle.sweep.proofs.Rooms.{not-done, is-done-is}

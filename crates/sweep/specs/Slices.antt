@@ -19,7 +19,7 @@ use Rattle.steps.specs.declared.Side.the-variants.{Rising, Falling}
 use Rattle.steps.specs.SweepUp.{State, Sweep, listEdge}
 use Rattle.rows.specs.Layout as rows
 use Rattle.rows.specs.Layout.{onFilm, filmPlaces}
-use Rattle.rows.specs.Free.{peakIn}
+use Rattle.finding.specs.Free.{peakIn}
 use Rattle.steps.specs.Swept.{rowsIn}
 use Rattle.journal.specs.Layout as journal
 use Rattle.journal.specs.Layout.{recordsIn}

@@ -18,8 +18,8 @@ use Rattle.steps.specs.SweepUp.{State, foundBelow, pickMeeting}
 use Rattle.steps.specs.Swept.{rowsIn}
 use Rattle.rows.specs.declared.Place.{Place}
 use Rattle.rows.specs.Layout.{filmIn, lookRow, hasTipIn}
-use Rattle.rows.specs.Free.{peakIn}
-use Rattle.rows.specs.Index.{tipOf, Tips, none, only, allOn, Long, Indexed}
+use Rattle.finding.specs.Free.{peakIn}
+use Rattle.finding.specs.Index.{tipOf, Tips, none, only, allOn, Long, Indexed}
 use Rattle.sweep.specs.declared.NamedEdge.{NamedEdge}
 use Rattle.sweep.specs.Slices.{lentRoom, state, edgeOf, progress, numberBelow}
 

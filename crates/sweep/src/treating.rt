@@ -4,8 +4,8 @@
 use crate::NamedEdge;
 use crate::is_done;
 use rows::Place;
-use rows::free;
-use rows::index;
+use finding::free;
+use finding::index;
 use steps::End;
 use steps::Side;
 ghost use mathlib.Core.Path.{_≡_};
@@ -16,8 +16,8 @@ ghost use lib.ListN.{length, getD};
 ghost use Rattle.steps.specs.SweepUp as up;
 ghost use Rattle.steps.specs.SweepUp.{levels};
 ghost use Rattle.rows.specs.Layout.{HasRow, lookRow, openedIn};
-ghost use Rattle.rows.specs.Free.{peakIn};
-ghost use Rattle.rows.specs.Index.{tipAt, foundBy};
+ghost use Rattle.finding.specs.Free.{peakIn};
+ghost use Rattle.finding.specs.Index.{tipAt, foundBy};
 ghost use Rattle.sweep.specs.Slices.{lentRoom, state, edgeOf, progress, numberBelow};
 ghost use Rattle.sweep.specs.Treated.{Recorded, Opened, Chained, Attached, Met, Numbered, slices, Treated};
 

@@ -60,7 +60,7 @@ pub fn sweep_up(
     ensures { λ w. ⌜ numbersPerRecord * w .progress .records ≤ length (now (journal .entry)) ⌝ }
 {
     if n <= FEW {
-        let mut few_index = [0u16; rows::index::BLOCK * FEW];
+        let mut few_index = [0u16; finding::index::BLOCK * FEW];
         let mut few_counts = [0u64; FIRST_COUNTS + 1];
         return sweep_list(
             edges,
@@ -73,7 +73,7 @@ pub fn sweep_up(
             rows,
         );
     }
-    let mut index = [0u16; rows::index::BLOCK * 4096];
+    let mut index = [0u16; finding::index::BLOCK * 4096];
     let mut counts = [0u64; FIRST_COUNTS + 64];
     sweep_list(
         edges,

@@ -7,9 +7,9 @@ use borrow.Author.Needs.{needs}
 use borrow.Fn.Kinds.{In}
 use borrow.Fn.PlainCycle.{Measures, is, falls, and}
 use Rattle.laws.proofs.Tests.{not-true, not-false}
-use Rattle.rows.specs.Index.{foundBy}
-use Rattle.rows.proofs.Searching.{found-row, tip-has-row}
-use Rattle.rows.proofs.Indexing.{told-at}
+use Rattle.finding.specs.Index.{foundBy}
+use Rattle.rows.proofs.Searching.{tip-has-row}
+use Rattle.finding.proofs.Indexing.{told-at}
 use Rattle.sweep.proofs.Outcomes.{closed, none-left, no-row, stopped, unmet, met-both, met-found, from-raised, raised-not-apart}
 use Rattle.sweep.proofs.Passing.{passed-not, passed, both-ends, one-row, both-rows}
 use Rattle.sweep.proofs.treating.pass_both.Reads as pass-both
@@ -23,12 +23,13 @@ use Rattle.sweep.proofs.treating.raise.Kinds as raise-kinds
 use Rattle.sweep.proofs.treating.+pass_both+pass_up+raise.Lts-raise as raise-lts
 use Rattle.rows.proofs.both_finished.Reads as both-finished-reads
 use Rattle.rows.proofs.finish.Reads as finish-reads
-use Rattle.rows.proofs.free.give_back.Reads as give-back-reads
+use Rattle.finding.proofs.free.give_back.Reads as give-back-reads
 use Rattle.rows.proofs.free_row.Reads as free-row-reads
-use Rattle.rows.proofs.index.find.Reads as find-reads
-use Rattle.rows.proofs.index.mark.Reads as mark-reads
-use Rattle.rows.proofs.index.slot.Reads as slot-reads
+use Rattle.finding.proofs.index.find.Reads as find-reads
+use Rattle.finding.proofs.index.mark.Reads as mark-reads
+use Rattle.finding.proofs.index.slot.Reads as slot-reads
 use Rattle.rows.proofs.rows_in.Reads as rows-in-reads
+use Rattle.finding.proofs.Owners.{found-row}
 use Rattle.sheet.proofs.Point.same.Reads as same-reads
 use Rattle.steps.proofs.Side.other.Reads as other-reads
 use Rattle.sweep.proofs.NamedEdge.bottom.Reads as bottom-reads

@@ -2,8 +2,8 @@
 use mathlib.Core.Path.{ap}
 use borrow.Author.Needs.{needs}
 use native.Mathlib.Omega.{arith}
-use Rattle.rows.specs.Index.{foundBy}
-use Rattle.rows.proofs.Searching.{found-row}
+use Rattle.finding.specs.Index.{foundBy}
+use Rattle.finding.proofs.Owners.{found-row}
 use Rattle.sweep.proofs.Chaining.{chained-found, chained-none, chained-opened}
 use Rattle.sweep.proofs.treating.chain_row.Statement.{statement}
 use Rattle.sweep.proofs.treating.chain_row.Tie as tie

@@ -3,8 +3,8 @@ use borrow.Author.Needs.{needs}
 use native.Mathlib.Omega.{arith}
 use mathlib.Core.Path.{_≡_}
 use lib.ListN.{getD, length-set}
-use Rattle.rows.specs.Free.{peakIn, takenIn}
-use Rattle.rows.proofs.InUse.{taken-keeps}
+use Rattle.finding.specs.Free.{peakIn, takenIn}
+use Rattle.finding.proofs.InUse.{taken-keeps}
 use Rattle.sweep.proofs.Beside.{opened-beside}
 use Rattle.sweep.proofs.treating.open_lowest.Statement.{statement}
 use Rattle.sweep.proofs.treating.open_lowest.Tie as tie

@@ -3,8 +3,9 @@ use mathlib.Core.Path.{sym, ap, _∙_}
 use native.Mathlib.Omega.{arith}
 use borrow.Author.Needs.{needs}
 use Rattle.laws.proofs.Tests.{not-true, not-false}
-use Rattle.rows.specs.Index.{foundBy}
-use Rattle.rows.proofs.Searching.{found-row, tip-has-row}
+use Rattle.finding.specs.Index.{foundBy}
+use Rattle.rows.proofs.Searching.{tip-has-row}
+use Rattle.finding.proofs.Owners.{found-row}
 use Rattle.sweep.proofs.Outcomes.{closed, no-row, stopped, unmet, met-both}
 use Rattle.sweep.proofs.treating.treat_first.Statement.{statement}
 use Rattle.sweep.proofs.treating.treat_first.Tie as tie

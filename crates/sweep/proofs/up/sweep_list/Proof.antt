@@ -20,9 +20,9 @@ use Rattle.steps.specs.Rows.{LevelEdge}
 use Rattle.steps.specs.SweepUp as up
 use Rattle.steps.specs.SweepUp.{sweepUp, start}
 use Rattle.rows.specs.declared.Place.{Place}
-use Rattle.rows.specs.Index.{none, Indexed}
-use Rattle.rows.proofs.InUse.{in-use-none}
-use Rattle.rows.proofs.Indexing.{indexed-none}
+use Rattle.finding.specs.Index.{none, Indexed}
+use Rattle.finding.proofs.InUse.{in-use-none}
+use Rattle.finding.proofs.Indexing.{indexed-none}
 use Rattle.sweep.specs.declared.NamedEdge.{NamedEdge}
 use Rattle.sweep.specs.declared.Swept.{Swept}
 use Rattle.sweep.specs.Slices.{lentRoom, edgeOf, numberBelow, progress, listEdges, PlacesNumbered, swept, isDone}
