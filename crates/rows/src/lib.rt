@@ -1,6 +1,5 @@
-// Rows in the lent slice. Only this crate knows how a row lies in its eight numbers: specs/Layout.antt says it, and the functions here are proved
-// equal to what the steps do with a table of rows laid out so. Searches stop at the peak, above which no row was ever open. What spares them looks at
-// rows lies beside the slice: an index of tips, and notes of the rows in use.
+// Rows in the lent slice. How a row lies in its eight numbers is known here, and to the searches of the crate finding, which look at rows in place: specs/Layout.antt says
+// it, and the functions here are proved equal to what the steps do with a table of rows laid out so.
 use sheet::Point;
 use steps::Side;
 ghost use mathlib.Core.Path.{_≡_};

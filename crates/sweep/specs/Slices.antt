@@ -47,7 +47,7 @@ abbrev pub numberBelow : Side → NamedEdge → ℕ
 numberBelow Rising e = e .tails
 numberBelow Falling e = e .heads
 
--- The counts beside the slices: number 0 is how many records are written, number 1 the peak; the others are of the crate rows. How far the sweep has come by them.
+-- The counts beside the slices: number 0 is how many records are written, number 1 the peak; the others are of the crate finding. How far the sweep has come by them.
 abbrev pub progress : List ℕ → End → Progress
 progress counts t = record { records = getD counts 0 0; peak = peakIn counts; end = t }
 

@@ -1,5 +1,5 @@
 -- What the parts of a treatment leave: the slices as the steps leave them, wherever the index and the counts beside the rows were good, and these good again. The index is that of
--- the crate rows, and nothing is said of it here but that it stays good.
+-- the crate finding, and nothing is said of it here but that it stays good.
 use Prim.Native.Nat.{ℕ, _+_, _≤_, _<_, max}
 use mathlib.Core.Path.{_≡_}
 use mathlib.Core.Bool.{Bool, true}

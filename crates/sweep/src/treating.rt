@@ -1,11 +1,11 @@
 // An edge of any level treated: step 1 finds or opens its chain's row, steps 2 and 3 attach it, step 4 finishes branches that meet, and frees and passes up
 // each row that is finished on both sides. A row passed up is an edge of the next level, so raising it calls itself one level up, with one level less left.
-// Beside the rows lie the index and the counts, which spare searches (crate rows); what they rest on is handed on as it is.
+// Beside the rows lie the index and the counts, which spare searches (crate finding); what they rest on is handed on as it is.
 use crate::NamedEdge;
 use crate::is_done;
-use rows::Place;
 use finding::free;
 use finding::index;
+use rows::Place;
 use steps::End;
 use steps::Side;
 ghost use mathlib.Core.Path.{_≡_};
