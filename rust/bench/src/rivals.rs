@@ -46,8 +46,8 @@ impl Desk {
             outlines: 0,
         };
         desk.outlines = match desk.engine() {
-            outline::Answer::Accepted { polygons, .. } => polygons as usize,
-            outline::Answer::Refused(refusal) => panic!("the engine refuses: {}", refusal),
+            Ok(accepted) => accepted.polygons as usize,
+            Err(refusal) => panic!("the engine refuses: {}", refusal),
         };
         desk
     }
@@ -61,24 +61,24 @@ impl Desk {
     /// with a call after it that is lent few of them, in turn.
     pub fn time_clearing(&mut self, rounds: usize) -> Rounds<3> {
         let engine = |desk: &mut Desk| {
-            desk.engine();
+            assert!(desk.engine().is_ok());
         };
         let clearing = |desk: &mut Desk| desk.rows.fill(0);
         let both = |desk: &mut Desk| {
             desk.rows.fill(0);
-            desk.engine_with(FEW_ROWS);
+            assert!(desk.engine_with(FEW_ROWS).is_ok());
         };
         let times = Rounds::of(rounds, self, [engine, clearing, both]);
         assert!(self.rows.iter().all(|number| *number == 0));
         times
     }
 
-    fn engine(&mut self) -> outline::Answer {
+    fn engine(&mut self) -> Result<outline::Accepted, outline::Refusal> {
         self.engine_with(self.lent_rows())
     }
 
     /// The engine, lent so many of the rows.
-    fn engine_with(&mut self, rows: usize) -> outline::Answer {
+    fn engine_with(&mut self, rows: usize) -> Result<outline::Accepted, outline::Refusal> {
         outline::assemble(
             &self.list,
             &mut self.polygons,
@@ -118,7 +118,8 @@ impl Desk {
     }
 
     fn engine_turns(&mut self) {
-        outline::turns(&self.polygons, &self.sequences, &mut self.turns);
+        let answer = outline::turns(&self.polygons, &self.sequences, &mut self.turns);
+        assert!(answer.is_ok());
     }
 
     fn witness_turns(&mut self) {
@@ -166,11 +167,7 @@ impl Desks {
 
     /// Times engine, hash map and fast joiner, so many rounds in turn.
     pub fn time_in_turn(&mut self, rounds: usize) -> Rounds<3> {
-        let engine = |desks: &mut Desks| {
-            desks.each(|desk| {
-                desk.engine();
-            })
-        };
+        let engine = |desks: &mut Desks| desks.each(|desk| assert!(desk.engine().is_ok()));
         let hashed = |desks: &mut Desks| desks.each(|desk| desk.join(HASH_MAP));
         let fast = |desks: &mut Desks| desks.each(|desk| desk.join(FAST_JOINER));
         Rounds::of(rounds, self, [engine, hashed, fast])

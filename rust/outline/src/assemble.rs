@@ -3,21 +3,24 @@
 use crate::engine;
 use crate::refusal::Refusal;
 
-/// What [`assemble()`] answers.
+/// What [`assemble()`] answers of a list that is numbered and whose edges are put
+/// in turn.
+///
+/// ```
+/// use outline::{assemble, Accepted};
+///
+/// let nothing = assemble(&[], &mut [], &mut [], &mut [], &mut [], &mut []);
+/// assert_eq!(nothing, Ok(Accepted { polygons: 0, peak: 0, records: 0 }));
+/// ```
 #[derive(Clone, Copy, PartialEq, Eq, Hash, Debug)]
-pub enum Answer {
-    /// The list is numbered and its edges are put in turn.
-    Accepted {
-        /// How many outlines there are.
-        polygons: u32,
-        /// The most rows that were in use at any moment. So many are needed
-        /// and enough for this list.
-        peak: u32,
-        /// How many records stand in the journal.
-        records: u32,
-    },
-    /// The list is not numbered, for this reason.
-    Refused(Refusal),
+pub struct Accepted {
+    /// How many outlines there are.
+    pub polygons: u32,
+    /// The most rows that were in use at any moment. So many are needed and
+    /// enough for this list.
+    pub peak: u32,
+    /// How many records stand in the journal.
+    pub records: u32,
 }
 
 /// Numbers a list of edges and puts them in turn, in slices that the caller
@@ -37,26 +40,30 @@ pub enum Answer {
 ///   at the risk of refusal 10. What they hold before does not matter. When
 ///   accepted they are all zero.
 ///
-/// A refusal leaves the three lists as they were; refusal 10 leaves journal and
-/// rows all zero, every other leaves these as they were too.
+/// # Errors
+///
+/// The refusals 1 to 10, 16 and 17. A refusal leaves the three lists as they were;
+/// refusal 10 leaves journal and rows all zero, every other leaves these as they
+/// were too.
 ///
 /// ```
-/// use outline::{assemble, Answer};
+/// use outline::{assemble, Accepted};
 ///
 /// let triangle = [0, 0, 4, 2, 7, 4, 2, 1, 5, 7, 1, 5, 0, 0, 7];
 /// let (mut polygons, mut sequences, mut turns) = ([0; 3], [0; 3], [0; 3]);
 /// let (mut journal, mut rows) = ([0; 24], [0; 8]);
-/// let answer = assemble(
+/// let accepted = assemble(
 ///     &triangle,
 ///     &mut polygons,
 ///     &mut sequences,
 ///     &mut turns,
 ///     &mut journal,
 ///     &mut rows,
-/// );
-/// assert_eq!(answer, Answer::Accepted { polygons: 1, peak: 1, records: 4 });
+/// )?;
+/// assert_eq!(accepted, Accepted { polygons: 1, peak: 1, records: 4 });
 /// assert_eq!((polygons, sequences), ([1, 1, 1], [1, 2, 0]));
 /// assert_eq!(turns, [2, 0, 1]);
+/// # Ok::<(), outline::Refusal>(())
 /// ```
 ///
 /// [`rows_enough`]: crate::rows_enough
@@ -68,14 +75,14 @@ pub fn assemble(
     turns: &mut [u32],
     journal: &mut [i32],
     rows: &mut [i32],
-) -> Answer {
+) -> Result<Accepted, Refusal> {
     let sheet = engine::assemble(edges, polygons, sequences, turns, journal, rows);
     match Refusal::of(sheet.refusal, sheet.place) {
-        Some(refusal) => Answer::Refused(refusal),
-        None => Answer::Accepted {
+        Some(refusal) => Err(refusal),
+        None => Ok(Accepted {
             polygons: sheet.polygons,
             peak: sheet.peak,
             records: sheet.records,
-        },
+        }),
     }
 }

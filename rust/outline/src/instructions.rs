@@ -1,6 +1,6 @@
 //! What the two cutters are told: travel to a place, cut to a place, lift.
 
-use std::fmt;
+use core::fmt;
 
 use crate::engine;
 use crate::refusal::Refusal;

@@ -34,24 +34,33 @@
 //! two outlines.
 
 #![deny(unsafe_code, unsafe_op_in_unsafe_fn, missing_docs)]
+#![cfg_attr(not(feature = "std"), no_std)]
 
 mod assemble;
 mod engine;
 mod instructions;
+#[cfg(feature = "std")]
 mod outlines;
+#[cfg(feature = "std")]
 pub mod picture;
+#[cfg(feature = "std")]
 pub mod pixels;
+mod point;
 mod refusal;
 mod rows;
+mod sayings;
+#[cfg(feature = "std")]
 pub mod text;
 mod turns;
 
-pub use assemble::{assemble, Answer};
+pub use assemble::{assemble, Accepted};
 pub use instructions::{instruction, Instruction, Machine, Place};
+#[cfg(feature = "std")]
 pub use outlines::Outlines;
+pub use point::Point;
 pub use refusal::Refusal;
 pub use rows::rows_enough;
-pub use turns::{turns, TurnAnswer};
+pub use turns::turns;
 
 /// How many numbers an edge takes in a list: tail x, tail y, head x, head y, film.
 pub const NUMBERS_PER_EDGE: usize = 5;

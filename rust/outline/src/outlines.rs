@@ -1,6 +1,6 @@
 //! The numbers and turns of a list, owned: the room is sized and lent here.
 
-use crate::assemble::{assemble, Answer};
+use crate::assemble::assemble;
 use crate::instructions::{instruction, Instruction, Machine};
 use crate::refusal::Refusal;
 use crate::rows::rows_enough;
@@ -61,22 +61,17 @@ impl Outlines {
     fn assemble(&mut self) -> Result<(), Refusal> {
         let mut journal = vec![0; JOURNAL_NUMBERS_PER_EDGE * self.polygons.len()];
         let mut rows = vec![0; NUMBERS_PER_ROW * rows_enough(&self.edges)];
-        let answer = assemble(
+        let accepted = assemble(
             &self.edges,
             &mut self.polygons,
             &mut self.sequences,
             &mut self.turns,
             &mut journal,
             &mut rows,
-        );
-        match answer {
-            Answer::Accepted { peak, records, .. } => {
-                self.peak = peak;
-                self.records = records;
-                Ok(())
-            }
-            Answer::Refused(refusal) => Err(refusal),
-        }
+        )?;
+        self.peak = accepted.peak;
+        self.records = accepted.records;
+        Ok(())
     }
 
     fn find_starts(&mut self) {

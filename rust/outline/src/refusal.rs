@@ -2,19 +2,26 @@
 //! the number that the rules give it, its place, and a sentence that says what
 //! is wrong and what to do.
 
-use std::error::Error;
-use std::fmt;
+use core::fmt;
+
+use crate::sayings::{self, Saying};
 
 /// A refusal. An edge is named by its place in the list, from 0, and a line of
-/// a text by its number, from 1.
+/// a text by its number, from 1. Shown as text it says which edge is meant, what is
+/// wrong with it and what to do; with the feature `std` it is an error.
 ///
 /// ```
 /// use outline::{Outlines, Refusal};
 ///
-/// let refusal = Outlines::of(&[5, 5, 5, 5, 0]).unwrap_err();
-/// assert_eq!(refusal, Refusal::EqualEnds { edge: 0 });
-/// assert_eq!((refusal.number(), refusal.place()), (6, 0));
-/// println!("{}", refusal);
+/// let refusal = Outlines::of(&[0, 0, 4, 2, 7, 5, 5, 5, 5, 7]).unwrap_err();
+/// assert_eq!(refusal, Refusal::EqualEnds { edge: 1 });
+/// assert_eq!((refusal.number(), refusal.place(), refusal.word()), (6, 1, "EqualEnds"));
+/// assert_eq!(
+///     refusal.to_string(),
+///     "edge 1 (counted from 0) begins and ends at the same point \
+///      (refusal 6, EqualEnds): leave it out"
+/// );
+/// let _error: Box<dyn std::error::Error> = refusal.into();
 /// ```
 ///
 /// The names are those of docs/REFUSALS.md, in which each number has one word:
@@ -155,6 +162,13 @@ impl Refusal {
     }
 
     /// The refusal's number in the rules.
+    ///
+    /// ```
+    /// use outline::Refusal;
+    ///
+    /// assert_eq!(Refusal::TopFalls { edge: 1 }.number(), 7);
+    /// ```
+    #[must_use]
     pub fn number(self) -> u32 {
         match self {
             Refusal::NotWhole => 1,
@@ -183,6 +197,14 @@ impl Refusal {
 
     /// The refusal's place: an edge's place or a position in the turn list from 0,
     /// a line's number from 1, and 0 where it speaks of no single one.
+    ///
+    /// ```
+    /// use outline::Refusal;
+    ///
+    /// assert_eq!(Refusal::TurnsDiffer { position: 3 }.place(), 3);
+    /// assert_eq!(Refusal::NotWhole.place(), 0);
+    /// ```
+    #[must_use]
     pub fn place(self) -> u32 {
         match self {
             Refusal::Malformed { line } => line,
@@ -193,6 +215,14 @@ impl Refusal {
     }
 
     /// The edge that the refusal speaks of, if it speaks of one.
+    ///
+    /// ```
+    /// use outline::Refusal;
+    ///
+    /// assert_eq!(Refusal::TopFalls { edge: 1 }.edge(), Some(1));
+    /// assert_eq!(Refusal::NotWhole.edge(), None);
+    /// ```
+    #[must_use]
     pub fn edge(self) -> Option<u32> {
         match self {
             Refusal::PastRange { edge }
@@ -211,113 +241,53 @@ impl Refusal {
         }
     }
 
-    /// What is wrong, as the end of a sentence that begins with the edge, the
-    /// line or the position that it speaks of, if any.
-    fn fault(self) -> &'static str {
-        match self {
-            Refusal::NotWhole => "the list ends in the middle of an edge",
-            Refusal::TooMany => "the list has more than 4,096 edges",
-            Refusal::ListsDiffer => {
-                "the polygon list, the sequence list or the turn list has not one number for each edge"
-            }
-            Refusal::JournalShort => "the journal is too short",
-            Refusal::PastRange { .. } => {
-                "has a coordinate below -1,000,000 or above 1,000,000"
-            }
-            Refusal::EqualEnds { .. } => "begins and ends at the same point",
-            Refusal::TopFalls { .. } => {
-                "has its higher end below the higher end of the edge before it"
-            }
-            Refusal::Repeated { .. } => {
-                "arrives at a point, or leaves one, on the same side of it as an earlier edge of its film does"
-            }
-            Refusal::Uneven { .. } => {
-                "has an end where not as many edges of its film arrive as leave, so that an outline is open there"
-            }
-            Refusal::NoRow { .. } => "finds no free row",
-            Refusal::TurnLengths => {
-                "the polygon list, the sequence list and the turn list are not equally long, or not as long as there are edges, or longer than 4,096"
-            }
-            Refusal::NoPolygon { .. } => "has the polygon number 0",
-            Refusal::PairRepeated { .. } => {
-                "has the same polygon number and sequence number as an earlier edge"
-            }
-            Refusal::Gap { .. } => {
-                "comes after a gap: no edge has the sequence number, or the polygon number, one below its own"
-            }
-            Refusal::Malformed { .. } => "is malformed",
-            Refusal::FilmPastRange { .. } => "has a film below 0 or above 255",
-            Refusal::NotAlternating { .. } => {
-                "has an end where four edges of its film do not arrive and leave by turns going round the point, or where two of them lie in one direction"
-            }
-            Refusal::PastLast => "there are not so many instructions",
-            Refusal::TurnsDiffer { .. } => "has another edge than the numbers put there",
-            Refusal::HeadNotTail { .. } => {
-                "does not end where the next edge of its outline begins"
-            }
-            Refusal::Unknown { .. } => "the engine refuses for a reason that is not known here",
-        }
+    /// The refusal's word, by which docs/REFUSALS.md and the C header have it too.
+    ///
+    /// ```
+    /// use outline::Refusal;
+    ///
+    /// assert_eq!(Refusal::TopFalls { edge: 1 }.word(), "TopFalls");
+    /// ```
+    #[must_use]
+    pub fn word(self) -> &'static str {
+        self.said().word
     }
 
-    /// What to do about it.
-    fn remedy(self) -> &'static str {
+    fn said(self) -> &'static Saying {
         match self {
-            Refusal::NotWhole => {
-                "give every edge five numbers: tail x, tail y, head x, head y, film"
-            }
-            Refusal::TooMany => "split the sheet",
-            Refusal::ListsDiffer => "make all three as long as there are edges",
-            Refusal::JournalShort => "lend it eight numbers or more for each edge",
-            Refusal::PastRange { .. } => "move or shrink the drawing",
-            Refusal::EqualEnds { .. } => "leave it out",
-            Refusal::TopFalls { .. } => {
-                "sort the edges by the y of their higher ends, and at equal y by the x"
-            }
-            Refusal::Repeated { .. } => {
-                "if it is drawn twice leave one out, else move the point apart into two"
-            }
-            Refusal::Uneven { .. } => {
-                "add the edge that is missing, or turn round the one that runs the wrong way"
-            }
-            Refusal::NoRow { .. } => "lend more rows; rows_enough says how many always do",
-            Refusal::TurnLengths => "lend one number for each edge in all three",
-            Refusal::NoPolygon { .. } => "number polygons from 1",
-            Refusal::PairRepeated { .. } => "give each edge of a polygon a sequence number of its own",
-            Refusal::Gap { .. } => {
-                "number polygons from 1 and the edges of each from 0, leaving none out"
-            }
-            Refusal::Malformed { .. } => {
-                "write five whole numbers of up to seven digits with one space between them, no needless zeros, and a newline after the last"
-            }
-            Refusal::FilmPastRange { .. } => "give it one of the 256 films",
-            Refusal::NotAlternating { .. } => {
-                "film lies to the left of every edge: turn round the outline that runs the wrong way, or move the point apart into two"
-            }
-            Refusal::PastLast => "stop after the last; there are as many as edges, and two more for each outline",
-            Refusal::TurnsDiffer { .. } => "take the turn list that comes with the numbers, or have it read from them",
-            Refusal::HeadNotTail { .. } => "take the numbers and the turn list that belong to these edges",
-            Refusal::Unknown { .. } => "build the program again with the archive that it is used with",
+            Refusal::Unknown { .. } => &sayings::UNKNOWN,
+            known => sayings::of(known.number()),
         }
     }
 }
 
+/// One sentence: which edge, line or position, what is wrong with it, the
+/// refusal's number and word, and what to do.
 impl fmt::Display for Refusal {
     fn fmt(&self, to: &mut fmt::Formatter) -> fmt::Result {
+        match self {
+            Refusal::Malformed { line } => write!(to, "line {} ", line)?,
+            Refusal::TurnsDiffer { position } => {
+                write!(
+                    to,
+                    "position {} of the turn list (counted from 0) ",
+                    position
+                )?;
+            }
+            _ => {}
+        }
         if let Some(edge) = self.edge() {
             write!(to, "edge {} (counted from 0) ", edge)?;
         }
+        let said = self.said();
+        write!(to, "{} (refusal {}, ", said.fault, self.number())?;
         match self {
-            Refusal::Malformed { line } => write!(to, "line {} ", line)?,
-            Refusal::TurnsDiffer { position } => write!(
-                to,
-                "position {} of the turn list (counted from 0) ",
-                position
-            )?,
-            Refusal::Unknown { number, place } => write!(to, "refusal {} {}: ", number, place)?,
-            _ => {}
+            Refusal::Unknown { place, .. } => write!(to, "place {}", place)?,
+            _ => write!(to, "{}", said.word)?,
         }
-        write!(to, "{}: {}", self.fault(), self.remedy())
+        write!(to, "): {}", said.remedy)
     }
 }
 
-impl Error for Refusal {}
+#[cfg(feature = "std")]
+impl std::error::Error for Refusal {}

@@ -1,9 +1,7 @@
 //! How many rows to lend.
 
+use crate::point::Point;
 use crate::{MOST_EDGES, NUMBERS_PER_EDGE};
-
-/// A point as it is ordered: height first, then x.
-type Point = (i32, i32);
 
 /// A number of rows with which refusal 10 never comes: 1 + F(C - 2), the whole
 /// list taken for its longest outline.
@@ -16,11 +14,12 @@ type Point = (i32, i32);
 /// `fewer-enough` in crates/numbering/specs/Promised.antt). Before the list is
 /// numbered L is not known, but no outline has more edges than the list, and a
 /// greater L only makes the number greater. So it is never too small. It may be
-/// larger than needed: [`Answer::Accepted`] gives the peak, with which the same
-/// list is accepted too.
+/// larger than needed: [`Accepted`] gives the peak, with which the same list is
+/// accepted too.
 ///
 /// For a list that the engine refuses, whatever its fault, any number would do.
-/// The cost is that of sorting the edges' ends.
+/// The cost is that of sorting the edges' ends, for which it takes 64 KB of stack;
+/// nothing is allocated.
 ///
 /// ```
 /// let two_peaks = [3, 2, 1, 6, 0, 1, 6, 3, 0, 0, 3, 0, 6, 8, 0, 6, 8, 3, 2, 0];
@@ -29,7 +28,8 @@ type Point = (i32, i32);
 /// assert_eq!(outline::rows_enough(&[]), 0);
 /// ```
 ///
-/// [`Answer::Accepted`]: crate::Answer::Accepted
+/// [`Accepted`]: crate::Accepted
+#[must_use]
 pub fn rows_enough(edges: &[i32]) -> usize {
     let count = edges.len() / NUMBERS_PER_EDGE;
     if count == 0 || count > MOST_EDGES {
@@ -41,29 +41,36 @@ pub fn rows_enough(edges: &[i32]) -> usize {
 
 /// C: the most edges that pass any one point. Going up, an edge begins to pass
 /// just above its bottom and passes its top as the last point, so the most is
-/// met at a top.
+/// met at a top. For at most as many edges as a list may hold.
 fn passing(edges: &[i32]) -> usize {
-    let (mut bottoms, mut tops): (Vec<Point>, Vec<Point>) =
-        edges.chunks_exact(NUMBERS_PER_EDGE).map(ends).unzip();
-    bottoms.sort_unstable();
-    tops.sort_unstable();
-    let (mut begun, mut ended, mut most) = (0, 0, 0);
-    for top in &tops {
-        while begun < bottoms.len() && bottoms[begun] < *top {
-            begun += 1;
-        }
-        while tops[ended] < *top {
-            ended += 1;
-        }
-        most = most.max(begun - ended);
-    }
-    most
+    let (mut bottoms, mut tops) = (
+        [Point::new(0, 0); MOST_EDGES],
+        [Point::new(0, 0); MOST_EDGES],
+    );
+    let bottoms = sorted_ends(edges, &mut bottoms, Point::min);
+    let tops = sorted_ends(edges, &mut tops, Point::max);
+    let passing = |top: &Point| below(bottoms, *top) - below(tops, *top);
+    tops.iter().map(passing).max().unwrap_or(0)
 }
 
-/// The bottom and the top of an edge.
-fn ends(edge: &[i32]) -> (Point, Point) {
-    let (tail, head) = ((edge[1], edge[0]), (edge[3], edge[2]));
-    (tail.min(head), tail.max(head))
+/// How many of these points, which stand lowest first, are below a point.
+fn below(points: &[Point], point: Point) -> usize {
+    points.partition_point(|other| *other < point)
+}
+
+/// One end of each edge, lowest first, in room that is lent.
+fn sorted_ends<'a>(
+    edges: &[i32],
+    room: &'a mut [Point],
+    one_of: fn(Point, Point) -> Point,
+) -> &'a [Point] {
+    let edges = edges.chunks_exact(NUMBERS_PER_EDGE);
+    let ends = &mut room[..edges.len()];
+    for (end, edge) in ends.iter_mut().zip(edges) {
+        *end = one_of(Point::new(edge[0], edge[1]), Point::new(edge[2], edge[3]));
+    }
+    ends.sort_unstable();
+    ends
 }
 
 /// How many times a number above 0 can be halved before it is 1.

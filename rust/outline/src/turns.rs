@@ -3,39 +3,30 @@
 use crate::engine;
 use crate::refusal::Refusal;
 
-/// What a turn list call answers.
-#[derive(Clone, Copy, PartialEq, Eq, Hash, Debug)]
-pub enum TurnAnswer {
-    /// The turn list is filled.
-    Accepted {
-        /// How many outlines there are.
-        polygons: u32,
-    },
-    /// The two lists are no numbering, for this reason.
-    Refused(Refusal),
-}
-
 /// Fills the turn list of a numbering that was read from elsewhere: the edges'
 /// places in the list, outline by outline, each outline in the order of its
-/// sequence numbers. All three lists have one number an edge. A refusal leaves
-/// the turn list as it was. Who has the edges themselves need not call this:
+/// sequence numbers. All three lists have one number an edge. The answer is how
+/// many outlines there are. Who has the edges themselves need not call this:
 /// [`assemble()`](crate::assemble()) fills the turn list too.
 ///
+/// # Errors
+///
+/// The refusals 11 to 14. They leave the turn list as it was.
+///
 /// ```
-/// use outline::{turns, TurnAnswer};
+/// use outline::{turns, Refusal};
 ///
 /// let (polygons, sequences) = ([2, 1, 2, 1], [1, 0, 0, 1]);
 /// let mut places = [0; 4];
-/// let answer = turns(&polygons, &sequences, &mut places);
-/// assert_eq!(answer, TurnAnswer::Accepted { polygons: 2 });
+/// assert_eq!(turns(&polygons, &sequences, &mut places), Ok(2));
 /// assert_eq!(places, [1, 3, 2, 0]);
+/// let repeated = turns(&[1, 1], &[0, 0], &mut [0; 2]);
+/// assert_eq!(repeated, Err(Refusal::PairRepeated { edge: 1 }));
 /// ```
-pub fn turns(polygons: &[u32], sequences: &[u32], turns: &mut [u32]) -> TurnAnswer {
+pub fn turns(polygons: &[u32], sequences: &[u32], turns: &mut [u32]) -> Result<u32, Refusal> {
     let turned = engine::turns(polygons, sequences, turns);
     match Refusal::of(turned.refusal, turned.place) {
-        Some(refusal) => TurnAnswer::Refused(refusal),
-        None => TurnAnswer::Accepted {
-            polygons: turned.polygons,
-        },
+        Some(refusal) => Err(refusal),
+        None => Ok(turned.polygons),
     }
 }

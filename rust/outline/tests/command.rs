@@ -78,7 +78,7 @@ fn a_refused_sheet() {
     let output = run(SVG, &[], b"0 0 4 2 0\n4 2 1,5 0\n");
     assert_eq!(output.status.code(), Some(1));
     let message = text(&output.stderr);
-    let begin = "outline-svg: standard input: refused 15 2: line 2 is malformed: ";
+    let begin = "outline-svg: standard input: refused 15 2: line 2 is malformed (refusal 15, ";
     assert!(message.starts_with(begin), "{}", message);
 }
 

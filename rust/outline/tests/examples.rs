@@ -3,7 +3,7 @@
 
 use outline::text::{read_sheet, write_sheet};
 use outline::{assemble, instruction, picture, rows_enough, turns};
-use outline::{Answer, Instruction, Machine, Outlines, Place, Refusal, TurnAnswer};
+use outline::{Accepted, Instruction, Machine, Outlines, Place, Refusal};
 
 const TRIANGLE: [i32; 15] = [0, 0, 4, 2, 7, 4, 2, 1, 5, 7, 1, 5, 0, 0, 7];
 
@@ -29,12 +29,12 @@ fn on_lent_slices() {
         &mut journal,
         &mut rows,
     );
-    let accepted = Answer::Accepted {
+    let accepted = Accepted {
         polygons: 1,
         peak: 1,
         records: 4,
     };
-    assert_eq!(answer, accepted);
+    assert_eq!(answer, Ok(accepted));
     assert_eq!((polygons, sequences), ([1, 1, 1], [1, 2, 0]));
     assert_eq!(turns, [2, 0, 1]);
 }
@@ -43,8 +43,7 @@ fn on_lent_slices() {
 fn a_turn_list() {
     let (polygons, sequences) = ([2, 1, 2, 1], [1, 0, 0, 1]);
     let mut places = [0; 4];
-    let answer = turns(&polygons, &sequences, &mut places);
-    assert_eq!(answer, TurnAnswer::Accepted { polygons: 2 });
+    assert_eq!(turns(&polygons, &sequences, &mut places), Ok(2));
     assert_eq!(places, [1, 3, 2, 0]);
 }
 

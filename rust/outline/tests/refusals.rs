@@ -3,7 +3,7 @@
 
 use std::collections::BTreeSet;
 
-use outline::{assemble, instruction, turns, Answer, Machine, Outlines, Refusal, TurnAnswer};
+use outline::{assemble, instruction, turns, Accepted, Machine, Outlines, Refusal};
 
 const TRIANGLE: [i32; 15] = [0, 0, 4, 2, 7, 4, 2, 1, 5, 7, 1, 5, 0, 0, 7];
 
@@ -61,12 +61,33 @@ fn numbers_and_places() {
     assert_eq!((unknown.number(), unknown.place()), (77, 5));
 }
 
+/// The word of a refusal is the name of its case.
+#[test]
+fn words() {
+    let others = [
+        Refusal::Malformed { line: 1 },
+        Refusal::TurnsDiffer { position: 1 },
+        Refusal::Unknown {
+            number: 7,
+            place: 1,
+        },
+    ];
+    let all = OF_NO_EDGE.into_iter().chain(of_an_edge(1)).chain(others);
+    for refusal in all {
+        let name = format!("{:?}", refusal);
+        assert_eq!(name.split(' ').next(), Some(refusal.word()));
+    }
+}
+
 #[test]
 fn every_refusal_has_a_sentence_of_its_own() {
     let mut sentences = BTreeSet::new();
     let mut say = |refusal: Refusal| {
         let sentence = refusal.to_string();
-        assert!(sentence.contains(": "), "no remedy in {:?}", sentence);
+        let named = format!(" (refusal {}, {}): ", refusal.number(), refusal.word());
+        let unknown = " (refusal 77, place 5): ";
+        assert!(sentence.contains(&named) || sentence.contains(unknown));
+        assert!(!sentence.ends_with(": "), "no remedy in {:?}", sentence);
         assert!(!sentence.contains('\n') && !sentence.contains("  "));
         sentences.insert(sentence.replace("edge 4095 (counted from 0) ", "an edge "));
         sentence
@@ -77,14 +98,14 @@ fn every_refusal_has_a_sentence_of_its_own() {
     for refusal in of_an_edge(4095) {
         assert!(say(refusal).starts_with("edge 4095 (counted from 0) "));
     }
-    assert!(say(Refusal::Malformed { line: 12 }).starts_with("line 12 is malformed: "));
+    assert!(say(Refusal::Malformed { line: 12 }).starts_with("line 12 is malformed (refusal 15, "));
     let differ = say(Refusal::TurnsDiffer { position: 12 });
     assert!(differ.starts_with("position 12 of the turn list (counted from 0) has "));
     let unknown = Refusal::Unknown {
         number: 77,
         place: 5,
     };
-    assert!(say(unknown).starts_with("refusal 77 5: "));
+    assert!(say(unknown).starts_with("the engine refuses for a reason "));
     assert_eq!(sentences.len(), 21);
 }
 
@@ -93,8 +114,8 @@ fn one_sentence_in_full() {
     let refusal = Outlines::of(&[0, 1, 1, 1, 7, 0, 0, 1, 0, 7]).unwrap_err();
     assert_eq!(
         refusal.to_string(),
-        "edge 1 (counted from 0) has its higher end below the higher end of the edge before it: \
-         sort the edges by the y of their higher ends, and at equal y by the x"
+        "edge 1 (counted from 0) has its higher end below the higher end of the edge before it \
+         (refusal 7, TopFalls): sort the edges by the y of their higher ends, and at equal y by the x"
     );
 }
 
@@ -105,7 +126,12 @@ fn a_refusal_is_an_error() {
 }
 
 /// The answer with so many numbers in the three lists, the journal and the rows.
-fn answer(edges: &[i32], lists: [usize; 3], journal: usize, rows: usize) -> Answer {
+fn answer(
+    edges: &[i32],
+    lists: [usize; 3],
+    journal: usize,
+    rows: usize,
+) -> Result<Accepted, Refusal> {
     assemble(
         edges,
         &mut vec![0; lists[0]],
@@ -142,19 +168,14 @@ fn each_refusal_of_the_engine_comes_as_its_case() {
         (triangle([3; 3], 24, 7), Refusal::NoRow { edge: 0 }),
     ];
     for (answer, refusal) in cases {
-        assert_eq!(answer, Answer::Refused(refusal));
+        assert_eq!(answer, Err(refusal));
     }
 }
 
 #[test]
 fn each_refusal_of_the_turn_list_comes_as_its_case() {
-    let refused = |polygons: &[u32], sequences: &[u32], length: usize| match turns(
-        polygons,
-        sequences,
-        &mut vec![0; length],
-    ) {
-        TurnAnswer::Refused(refusal) => refusal,
-        TurnAnswer::Accepted { polygons } => panic!("{} polygons", polygons),
+    let refused = |polygons: &[u32], sequences: &[u32], length: usize| {
+        turns(polygons, sequences, &mut vec![0; length]).unwrap_err()
     };
     assert_eq!(refused(&[1], &[0], 2), Refusal::TurnLengths);
     assert_eq!(refused(&[1, 0], &[0, 0], 2), Refusal::NoPolygon { edge: 1 });

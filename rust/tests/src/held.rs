@@ -188,26 +188,22 @@ pub fn told(instruction: outline::Instruction) -> Instruction {
 }
 
 /// The engine's answer in the witness's words.
-fn numbers(answer: outline::Answer) -> Answer {
+fn numbers(answer: Result<outline::Accepted, outline::Refusal>) -> Answer {
     match answer {
-        outline::Answer::Accepted {
-            polygons,
-            peak,
-            records,
-        } => Answer::Accepted {
-            polygons,
-            peak,
-            records,
+        Ok(accepted) => Answer::Accepted {
+            polygons: accepted.polygons,
+            peak: accepted.peak,
+            records: accepted.records,
         },
-        outline::Answer::Refused(refusal) => Answer::Refused(refused(refusal)),
+        Err(refusal) => Answer::Refused(refused(refusal)),
     }
 }
 
 /// The same for a turn list call.
-pub fn turned(answer: outline::TurnAnswer) -> TurnAnswer {
+pub fn turned(answer: Result<u32, outline::Refusal>) -> TurnAnswer {
     match answer {
-        outline::TurnAnswer::Accepted { polygons } => TurnAnswer::Accepted { polygons },
-        outline::TurnAnswer::Refused(refusal) => TurnAnswer::Refused(refused(refusal)),
+        Ok(polygons) => TurnAnswer::Accepted { polygons },
+        Err(refusal) => TurnAnswer::Refused(refused(refusal)),
     }
 }
 

@@ -281,6 +281,22 @@ fn in_the_rust_crate() {
     assert_eq!(made, engines);
 }
 
+/// What the crate says of each refusal is in a table, by number and word.
+#[test]
+fn in_the_rust_crates_sentences() {
+    let text = read("rust/outline/src/sayings.rs");
+    let table = between(&text, "static SAYINGS", "\n];");
+    let (mut found, mut number) = (Names::new(), 0);
+    for line in table.lines().map(str::trim) {
+        if let Some(said) = line.strip_prefix("number: ") {
+            number = word(said).parse().unwrap();
+        } else if let Some(said) = line.strip_prefix("word: \"") {
+            found.insert((number, word(said).to_string()));
+        }
+    }
+    assert_eq!(found, names());
+}
+
 #[test]
 fn in_the_c_header() {
     let text = read("include/outline.h");
