@@ -1,11 +1,22 @@
 //! What the two cutters are told: travel to a place, cut to a place, lift.
 
 use core::fmt;
+use core::iter::FusedIterator;
 
 use crate::engine;
 use crate::refusal::Refusal;
 
 /// A cutter that takes instructions.
+///
+/// ```
+/// use outline::{Machine, Outlines};
+///
+/// let there_and_back = Outlines::of(&[0, 0, 64, 128, 7, 64, 128, 0, 0, 7])?;
+/// let first = |machine| there_and_back.instructions(machine).next().map(|one| one.to_string());
+/// assert_eq!(first(Machine::Flatbed), Some("travel 1 2".to_string()));
+/// assert_eq!(first(Machine::RollFeeder), Some("travel 2 -1".to_string()));
+/// # Ok::<(), outline::Refusal>(())
+/// ```
 #[derive(Clone, Copy, PartialEq, Eq, Hash, Debug)]
 pub enum Machine {
     /// Takes x first, then y.
@@ -17,6 +28,14 @@ pub enum Machine {
 /// A place in millimetres, in the order in which the machine takes its two
 /// numbers. A unit of the list is 1/64 mm, which a single-precision number holds
 /// exactly; zero is always plus zero.
+///
+/// ```
+/// use outline::{Place, UNITS_PER_MILLIMETRE};
+///
+/// let place = Place { first: 0.5, second: -15625.0 };
+/// assert_eq!(place.to_string(), "0.5 -15625");
+/// assert_eq!(place.first * UNITS_PER_MILLIMETRE as f32, 32.0);
+/// ```
 #[derive(Clone, Copy, PartialEq, Debug)]
 pub struct Place {
     /// The number that the machine takes first.
@@ -55,6 +74,8 @@ pub enum Instruction {
 /// - `polygons`, `sequences`: each edge's outline, from 1, and its place round
 ///   it, from 0.
 /// - `turns`: the turn list of these two.
+///
+/// # Errors
 ///
 /// Refused are edges by themselves ([`NotWhole`], [`TooMany`], [`PastRange`],
 /// [`FilmPastRange`], [`EqualEnds`]), lists that are no numbering ([`TurnLengths`],
@@ -111,6 +132,84 @@ pub fn instruction(
         _ => Instruction::Lift,
     })
 }
+
+/// All instructions of a machine, in their order, for edges that are numbered and
+/// put in turn, by [`assemble()`] or elsewhere. They end after the last one, where
+/// [`instruction()`] has refusal 18. Any other refusal comes once, as an error, and
+/// nothing after it. The lists are those of [`instruction()`], which is called for
+/// each; nothing is written or allocated.
+///
+/// ```
+/// use outline::{instructions, Instruction, Machine, Refusal};
+///
+/// let triangle = [0, 0, 4, 2, 7, 4, 2, 1, 5, 7, 1, 5, 0, 0, 7];
+/// let told = instructions(Machine::Flatbed, &triangle, &[1, 1, 1], &[1, 2, 0], &[2, 0, 1]);
+/// let told: Vec<Instruction> = told.collect::<Result<_, Refusal>>()?;
+/// assert_eq!(told.len(), 5);
+/// assert_eq!(told[4], Instruction::Lift);
+/// let mut other = instructions(Machine::Flatbed, &triangle, &[1, 1, 1], &[1, 2, 0], &[2, 1, 0]);
+/// assert_eq!(other.next(), Some(Err(Refusal::TurnsDiffer { position: 1 })));
+/// assert_eq!(other.next(), None);
+/// # Ok::<(), Refusal>(())
+/// ```
+///
+/// [`assemble()`]: crate::assemble()
+pub fn instructions<'a>(
+    machine: Machine,
+    edges: &'a [i32],
+    polygons: &'a [u32],
+    sequences: &'a [u32],
+    turns: &'a [u32],
+) -> Instructions<'a> {
+    Instructions {
+        machine,
+        edges,
+        polygons,
+        sequences,
+        turns,
+        next: Some(0),
+    }
+}
+
+/// All instructions of a machine, one after the other: what [`instructions()`]
+/// gives.
+///
+/// ```
+/// use outline::{instructions, Instructions, Machine};
+///
+/// let none: Instructions = instructions(Machine::RollFeeder, &[], &[], &[], &[]);
+/// assert_eq!(none.count(), 0);
+/// ```
+#[derive(Clone, Debug)]
+#[must_use = "nothing is asked for before it is looked through"]
+pub struct Instructions<'a> {
+    machine: Machine,
+    edges: &'a [i32],
+    polygons: &'a [u32],
+    sequences: &'a [u32],
+    turns: &'a [u32],
+    /// Which instruction comes next, unless they are over.
+    next: Option<u32>,
+}
+
+impl Iterator for Instructions<'_> {
+    type Item = Result<Instruction, Refusal>;
+
+    fn next(&mut self) -> Option<Result<Instruction, Refusal>> {
+        let k = self.next.take()?;
+        let (polygons, sequences) = (self.polygons, self.sequences);
+        match instruction(self.machine, self.edges, polygons, sequences, self.turns, k) {
+            Err(Refusal::PastLast) => None,
+            Err(refusal) => Some(Err(refusal)),
+            Ok(told) => {
+                self.next = k.checked_add(1);
+                Some(Ok(told))
+            }
+        }
+    }
+}
+
+impl FusedIterator for Instructions<'_> {}
 
 impl fmt::Display for Place {
     fn fmt(&self, to: &mut fmt::Formatter) -> fmt::Result {

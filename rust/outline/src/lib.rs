@@ -37,6 +37,7 @@
 #![cfg_attr(not(feature = "std"), no_std)]
 
 mod assemble;
+mod edge;
 mod engine;
 mod instructions;
 #[cfg(feature = "std")]
@@ -54,7 +55,8 @@ pub mod text;
 mod turns;
 
 pub use assemble::{assemble, Accepted};
-pub use instructions::{instruction, Instruction, Machine, Place};
+pub use edge::{sort_into_sweep_order, Edge};
+pub use instructions::{instruction, instructions, Instruction, Instructions, Machine, Place};
 #[cfg(feature = "std")]
 pub use outlines::Outlines;
 pub use point::Point;
