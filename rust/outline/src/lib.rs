@@ -41,11 +41,15 @@ mod edge;
 mod engine;
 mod instructions;
 #[cfg(feature = "std")]
+mod outline;
+#[cfg(feature = "std")]
 mod outlines;
 #[cfg(feature = "std")]
 pub mod picture;
 #[cfg(feature = "std")]
 pub mod pixels;
+#[cfg(feature = "std")]
+mod plain;
 mod point;
 mod refusal;
 mod rows;
@@ -58,7 +62,11 @@ pub use assemble::{assemble, Accepted};
 pub use edge::{sort_into_sweep_order, Edge};
 pub use instructions::{instruction, instructions, Instruction, Instructions, Machine, Place};
 #[cfg(feature = "std")]
+pub use outline::{Iter, Outline};
+#[cfg(feature = "std")]
 pub use outlines::Outlines;
+#[cfg(feature = "std")]
+pub use plain::{read_edges, write_edges};
 pub use point::Point;
 pub use refusal::Refusal;
 pub use rows::rows_enough;

@@ -1,13 +1,16 @@
 //! The numbers and turns of a list, owned: the room is sized and lent here.
 
 use crate::assemble::assemble;
+use crate::edge::Edge;
 use crate::instructions::{instruction, Instruction, Machine};
+use crate::outline::{Iter, Outline};
+use crate::plain::{edge_at, write_edges};
 use crate::refusal::Refusal;
 use crate::rows::rows_enough;
 use crate::{JOURNAL_NUMBERS_PER_EDGE, NUMBERS_PER_EDGE, NUMBERS_PER_ROW};
 
 /// The outlines of a list of edges: for each edge its outline and its place
-/// round it, and for each outline its edges in order.
+/// round it, and for each outline its edges in order. Needs the feature `std`.
 ///
 /// ```
 /// use outline::Outlines;
@@ -40,12 +43,49 @@ pub struct Outlines {
 }
 
 impl Outlines {
-    /// Numbers a list of edges and puts them in turn, with room enough. The list
-    /// is kept, for the films and the instructions.
+    /// Numbers a plain list of edges and puts them in turn, with room enough. The
+    /// list is kept, for the films and the instructions.
+    ///
+    /// # Errors
+    ///
+    /// The refusals 1, 2, 5 to 9, 16 and 17: those that speak of the list.
+    ///
+    /// ```
+    /// use outline::{Outlines, Refusal};
+    ///
+    /// assert_eq!(Outlines::of(&[0, 0, 4, 2, 7, 4, 2, 0, 0, 7])?.count(), 1);
+    /// assert_eq!(Outlines::of(&[0, 0, 4, 2, 7]), Err(Refusal::Uneven { edge: 0 }));
+    /// # Ok::<(), Refusal>(())
+    /// ```
     pub fn of(edges: &[i32]) -> Result<Outlines, Refusal> {
+        Outlines::of_list(edges.to_vec())
+    }
+
+    /// The same for edges that are no plain numbers. They must be in sweep order:
+    /// [`sort_into_sweep_order`] puts them so.
+    ///
+    /// # Errors
+    ///
+    /// The refusals 2, 5 to 9 and 17: those that speak of the edges.
+    ///
+    /// ```
+    /// use outline::{Edge, Outlines, Point, Refusal};
+    ///
+    /// let (low, high) = (Point::new(0, 0), Point::new(4, 2));
+    /// let there_and_back = [Edge::new(low, high, 7), Edge::new(high, low, 7)];
+    /// assert_eq!(Outlines::of_edges(&there_and_back)?.count(), 1);
+    /// # Ok::<(), Refusal>(())
+    /// ```
+    ///
+    /// [`sort_into_sweep_order`]: crate::sort_into_sweep_order
+    pub fn of_edges(edges: &[Edge]) -> Result<Outlines, Refusal> {
+        Outlines::of_list(write_edges(edges))
+    }
+
+    fn of_list(edges: Vec<i32>) -> Result<Outlines, Refusal> {
         let count = edges.len() / NUMBERS_PER_EDGE;
         let mut outlines = Outlines {
-            edges: edges.to_vec(),
+            edges,
             polygons: vec![0; count],
             sequences: vec![0; count],
             turns: vec![0; count],
@@ -80,31 +120,121 @@ impl Outlines {
         self.starts.push(self.turns.len());
     }
 
-    /// The list of edges.
+    /// The list of edges, five numbers for each.
+    ///
+    /// ```
+    /// # use outline::Outlines;
+    /// let outlines = Outlines::of(&[0, 0, 4, 2, 7, 4, 2, 1, 5, 7, 1, 5, 0, 0, 7])?;
+    /// assert_eq!(outlines.edges()[10..], [1, 5, 0, 0, 7]);
+    /// # Ok::<(), outline::Refusal>(())
+    /// ```
+    #[must_use]
     pub fn edges(&self) -> &[i32] {
         &self.edges
     }
 
+    /// The edge at a place of the list, from 0. None past its end.
+    ///
+    /// ```
+    /// # use outline::{Edge, Outlines, Point};
+    /// let outlines = Outlines::of(&[0, 0, 4, 2, 7, 4, 2, 1, 5, 7, 1, 5, 0, 0, 7])?;
+    /// let last = Edge::new(Point::new(1, 5), Point::new(0, 0), 7);
+    /// assert_eq!(outlines.edge(2), Some(last));
+    /// assert_eq!(outlines.edge(3), None);
+    /// # Ok::<(), outline::Refusal>(())
+    /// ```
+    #[must_use]
+    pub fn edge(&self, place: u32) -> Option<Edge> {
+        let is_there = (place as usize) < self.turns.len();
+        is_there.then(|| edge_at(&self.edges, place))
+    }
+
     /// How many outlines there are.
+    ///
+    /// ```
+    /// # use outline::Outlines;
+    /// let outlines = Outlines::of(&[0, 0, 4, 2, 7, 4, 2, 1, 5, 7, 1, 5, 0, 0, 7])?;
+    /// assert_eq!(outlines.count(), 1);
+    /// # Ok::<(), outline::Refusal>(())
+    /// ```
+    #[must_use]
     pub fn count(&self) -> usize {
         self.starts.len() - 1
+    }
+
+    /// The outlines one after the other, in the order of their numbers: each with
+    /// its film, its points and its edges.
+    ///
+    /// ```
+    /// use outline::{Outlines, Point};
+    ///
+    /// let outlines = Outlines::of(&[0, 0, 4, 2, 7, 4, 2, 1, 5, 7, 1, 5, 0, 0, 7])?;
+    /// for outline in outlines.iter() {
+    ///     assert_eq!((outline.number(), outline.film()), (1, 7));
+    ///     let corners: Vec<Point> = outline.points().collect();
+    ///     assert_eq!(corners, [(1, 5), (0, 0), (4, 2)].map(Point::from));
+    ///     assert_eq!(outline.edges().len(), 3);
+    /// }
+    /// # Ok::<(), outline::Refusal>(())
+    /// ```
+    pub fn iter(&self) -> Iter<'_> {
+        Iter::of(self)
+    }
+
+    /// The outline with this number, counted from 1. None for a number that no
+    /// outline has.
+    ///
+    /// ```
+    /// # use outline::Outlines;
+    /// let outlines = Outlines::of(&[0, 0, 4, 2, 7, 4, 2, 1, 5, 7, 1, 5, 0, 0, 7])?;
+    /// assert_eq!(outlines.get(1).map(|outline| outline.film()), Some(7));
+    /// assert!(outlines.get(0).is_none() && outlines.get(2).is_none());
+    /// # Ok::<(), outline::Refusal>(())
+    /// ```
+    #[must_use]
+    pub fn get(&self, number: usize) -> Option<Outline<'_>> {
+        Outline::of(&self.edges, self.places(number), number)
     }
 
     /// Each edge's outline, from 1, in list order. Outlines are numbered from
     /// the one with the highest top down. Of two films' outlines with the same
     /// top the one whose later top edge stands later in the list comes first.
+    ///
+    /// ```
+    /// # use outline::Outlines;
+    /// let outlines = Outlines::of(&[0, 0, 4, 2, 7, 4, 2, 1, 5, 7, 1, 5, 0, 0, 7])?;
+    /// assert_eq!(outlines.polygons(), [1, 1, 1]);
+    /// # Ok::<(), outline::Refusal>(())
+    /// ```
+    #[must_use]
     pub fn polygons(&self) -> &[u32] {
         &self.polygons
     }
 
     /// Each edge's place round its outline, in list order. The edge that leaves
     /// the highest point has 0.
+    ///
+    /// ```
+    /// # use outline::Outlines;
+    /// let outlines = Outlines::of(&[0, 0, 4, 2, 7, 4, 2, 1, 5, 7, 1, 5, 0, 0, 7])?;
+    /// assert_eq!(outlines.sequences(), [1, 2, 0]);
+    /// # Ok::<(), outline::Refusal>(())
+    /// ```
+    #[must_use]
     pub fn sequences(&self) -> &[u32] {
         &self.sequences
     }
 
     /// The edges' places in the list, outline by outline and each in sequence
     /// order.
+    ///
+    /// ```
+    /// # use outline::Outlines;
+    /// let outlines = Outlines::of(&[0, 0, 4, 2, 7, 4, 2, 1, 5, 7, 1, 5, 0, 0, 7])?;
+    /// assert_eq!(outlines.turns(), [2, 0, 1]);
+    /// # Ok::<(), outline::Refusal>(())
+    /// ```
+    #[must_use]
     pub fn turns(&self) -> &[u32] {
         &self.turns
     }
@@ -112,6 +242,15 @@ impl Outlines {
     /// The places of one outline's edges, in sequence order: each edge ends
     /// where the next begins, and the last where the first does. Empty for a
     /// number that no outline has.
+    ///
+    /// ```
+    /// # use outline::Outlines;
+    /// let outlines = Outlines::of(&[0, 0, 4, 2, 7, 4, 2, 1, 5, 7, 1, 5, 0, 0, 7])?;
+    /// assert_eq!(outlines.places(1), [2, 0, 1]);
+    /// assert!(outlines.places(2).is_empty());
+    /// # Ok::<(), outline::Refusal>(())
+    /// ```
+    #[must_use]
     pub fn places(&self, outline: usize) -> &[u32] {
         if outline == 0 || outline > self.count() {
             return &[];
@@ -119,18 +258,25 @@ impl Outlines {
         &self.turns[self.starts[outline - 1]..self.starts[outline]]
     }
 
-    /// The film of one outline, and so of each of its edges: that of its first. None for a number
-    /// that no outline has.
+    /// The film of one outline, and so of each of its edges. None for a number that
+    /// no outline has.
+    ///
+    /// ```
+    /// # use outline::Outlines;
+    /// let outlines = Outlines::of(&[0, 0, 4, 2, 7, 4, 2, 1, 5, 7, 1, 5, 0, 0, 7])?;
+    /// assert_eq!((outlines.film(1), outlines.film(2)), (Some(7), None));
+    /// # Ok::<(), outline::Refusal>(())
+    /// ```
+    #[must_use]
     pub fn film(&self, outline: usize) -> Option<u8> {
-        let first = *self.places(outline).first()? as usize;
-        Some(self.edges[NUMBERS_PER_EDGE * (first + 1) - 1] as u8)
+        self.get(outline).map(Outline::film)
     }
 
     /// What a machine is told to cut all outlines, in the order of their numbers:
     /// for each, travel to its highest point, cut along its edges, lift. There
     /// are as many instructions as edges, and two more for each outline. The
     /// engine is asked for each by itself, which takes it as long as looking
-    /// through the whole list.
+    /// through the whole list. It is proved that it refuses none of them.
     ///
     /// ```
     /// use outline::{Machine, Outlines};
@@ -150,6 +296,7 @@ impl Outlines {
     /// );
     /// # Ok::<(), outline::Refusal>(())
     /// ```
+    #[must_use]
     pub fn instructions(
         &self,
         machine: Machine,
@@ -167,12 +314,37 @@ impl Outlines {
     }
 
     /// The most rows that were in use at any moment.
+    ///
+    /// ```
+    /// # use outline::Outlines;
+    /// let outlines = Outlines::of(&[0, 0, 4, 2, 7, 4, 2, 1, 5, 7, 1, 5, 0, 0, 7])?;
+    /// assert_eq!(outlines.peak(), 1);
+    /// # Ok::<(), outline::Refusal>(())
+    /// ```
+    #[must_use]
     pub fn peak(&self) -> u32 {
         self.peak
     }
 
     /// How many records the sweep up wrote.
+    ///
+    /// ```
+    /// # use outline::Outlines;
+    /// let outlines = Outlines::of(&[0, 0, 4, 2, 7, 4, 2, 1, 5, 7, 1, 5, 0, 0, 7])?;
+    /// assert_eq!(outlines.records(), 4);
+    /// # Ok::<(), outline::Refusal>(())
+    /// ```
+    #[must_use]
     pub fn records(&self) -> u32 {
         self.records
+    }
+}
+
+impl<'a> IntoIterator for &'a Outlines {
+    type Item = Outline<'a>;
+    type IntoIter = Iter<'a>;
+
+    fn into_iter(self) -> Iter<'a> {
+        self.iter()
     }
 }

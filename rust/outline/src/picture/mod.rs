@@ -2,7 +2,7 @@
 //! at its top, every edge with an arrow head and its sequence number, a ring
 //! round every point where four edges of a film meet, y upwards. Or the way of
 //! the blade along the outlines. The same list gives the same bytes on every
-//! machine.
+//! machine. Needs the feature `std`.
 
 mod blade;
 mod canvas;
@@ -23,9 +23,23 @@ use frame::Frame;
 use sheet::Sheet;
 
 /// Lists with more edges than this are drawn without any numbers.
+///
+/// ```
+/// use outline::picture::{draw, MOST_NUMBERED};
+///
+/// let there_and_back = |y| [[0, y, 9, y, 7], [9, y, 0, y, 7]];
+/// let sheet = |edges: i32| -> Vec<i32> { (0..edges / 2).flat_map(there_and_back).flatten().collect() };
+/// let numbered = |edges: usize| Ok(draw(&sheet(edges as i32))?.contains("sequences"));
+/// assert_eq!(numbered(MOST_NUMBERED), Ok(true));
+/// assert_eq!(numbered(MOST_NUMBERED + 2), Ok::<bool, outline::Refusal>(false));
+/// ```
 pub const MOST_NUMBERED: usize = 400;
 
 /// Numbers a list and draws it.
+///
+/// # Errors
+///
+/// The refusals of [`Outlines::of`].
 ///
 /// ```
 /// let svg = outline::picture::draw(&[0, 0, 4, 2, 7, 4, 2, 1, 5, 7, 1, 5, 0, 0, 7])?;
@@ -50,6 +64,10 @@ pub fn draw(edges: &[i32]) -> Result<String, Refusal> {
 /// line in the film's colour where it cuts, and a dashed one where the head
 /// travels from one outline to the next. From where it travels to the first is
 /// not known, and not drawn.
+///
+/// # Errors
+///
+/// The refusals of [`Outlines::of`].
 ///
 /// ```
 /// let svg = outline::picture::draw_blade(&[0, 0, 4, 2, 7, 4, 2, 1, 5, 7, 1, 5, 0, 0, 7])?;

@@ -3,8 +3,8 @@
 
 use std::collections::{BTreeMap, BTreeSet};
 
+use crate::outline::Outline;
 use crate::outlines::Outlines;
-use crate::NUMBERS_PER_EDGE;
 
 /// A point of the list: x, y.
 pub type Point = (i32, i32);
@@ -53,19 +53,12 @@ pub struct Sheet {
 impl Sheet {
     /// The sheet of a list that is numbered.
     pub fn new(outlines: &Outlines) -> Sheet {
-        let edges = outlines.edges();
-        let tail = |place: &u32| {
-            let at = NUMBERS_PER_EDGE * *place as usize;
-            (edges[at], edges[at + 1])
+        let round = |outline: Outline| Round {
+            number: outline.number(),
+            film: outline.film(),
+            corners: outline.points().map(Point::from).collect(),
         };
-        let round = |number: usize| {
-            Some(Round {
-                number,
-                film: outlines.film(number)?,
-                corners: outlines.places(number).iter().map(tail).collect(),
-            })
-        };
-        let rounds: Vec<Round> = (1..=outlines.count()).filter_map(round).collect();
+        let rounds: Vec<Round> = outlines.iter().map(round).collect();
         let films: BTreeSet<u8> = rounds.iter().map(|round| round.film).collect();
         let met_twice = met_twice(&rounds);
         let mut touching: Vec<Point> = met_twice.iter().map(|(point, _)| *point).collect();
@@ -76,7 +69,7 @@ impl Sheet {
             met_twice,
             films: films.len(),
             rounds,
-            edges: edges.len() / NUMBERS_PER_EDGE,
+            edges: outlines.turns().len(),
         }
     }
 
