@@ -39,6 +39,8 @@
 mod assemble;
 mod edge;
 mod engine;
+#[cfg(feature = "std")]
+mod from_pixels;
 mod instructions;
 #[cfg(feature = "std")]
 mod outline;
@@ -60,6 +62,8 @@ mod turns;
 
 pub use assemble::{assemble, Accepted};
 pub use edge::{sort_into_sweep_order, Edge};
+#[cfg(feature = "std")]
+pub use from_pixels::from_pixels;
 pub use instructions::{instruction, instructions, Instruction, Instructions, Machine, Place};
 #[cfg(feature = "std")]
 pub use outline::{Iter, Outline};
