@@ -1,15 +1,27 @@
 //! Sheets as text, in the form that the program `outline` reads: a line an
 //! edge, five whole numbers with one space between, a newline after. The
 //! program's own limits, 512 lines and 20,480 bytes, are not kept here; a list
-//! may be as long as the engine takes it.
+//! may be as long as the engine takes it. Needs the feature `std`.
 
 use crate::refusal::Refusal;
 use crate::NUMBERS_PER_EDGE;
 
 /// The most digits of a number.
+///
+/// ```
+/// use outline::text::{read_sheet, MOST_DIGITS};
+///
+/// let line = |digits| format!("{} 0 0 0 7\n", "1".repeat(digits));
+/// assert!(read_sheet(line(MOST_DIGITS).as_bytes()).is_ok());
+/// assert!(read_sheet(line(MOST_DIGITS + 1).as_bytes()).is_err());
+/// ```
 pub const MOST_DIGITS: usize = 7;
 
-/// The edge list in a text, or refusal 15 with the first malformed line.
+/// The edge list in a text.
+///
+/// # Errors
+///
+/// Refusal 15 with the first malformed line.
 ///
 /// ```
 /// use outline::text::read_sheet;
@@ -71,6 +83,7 @@ fn read_number(word: &[u8]) -> Option<i32> {
 /// ```
 /// assert_eq!(outline::text::write_sheet(&[0, 0, -1, 1, 7]), "0 0 -1 1 7\n");
 /// ```
+#[must_use]
 pub fn write_sheet(edges: &[i32]) -> String {
     let line = |edge: &[i32]| {
         let words: Vec<String> = edge.iter().map(i32::to_string).collect();

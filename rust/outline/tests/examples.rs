@@ -2,8 +2,9 @@
 //! another machine does not run those in the comments.
 
 use outline::text::{read_sheet, write_sheet};
-use outline::{assemble, instruction, picture, rows_enough, turns};
-use outline::{Accepted, Instruction, Machine, Outlines, Place, Refusal};
+use outline::{assemble, instruction, instructions, picture, pixels, rows_enough, turns};
+use outline::{from_pixels, read_edges, sort_into_sweep_order, write_edges};
+use outline::{Accepted, Edge, Instruction, Machine, Outlines, Place, Point, Refusal};
 
 const TRIANGLE: [i32; 15] = [0, 0, 4, 2, 7, 4, 2, 1, 5, 7, 1, 5, 0, 0, 7];
 
@@ -15,6 +16,58 @@ fn the_whole_list_in_all_the_numbers_out() -> Result<(), Refusal> {
     assert_eq!(outlines.sequences(), [1, 2, 0]);
     assert_eq!(outlines.places(1), [2, 0, 1]);
     Ok(())
+}
+
+#[test]
+fn all_edges_in_all_outlines_out() -> Result<(), Refusal> {
+    let [low, right, high] = [(0, 0), (4, 2), (1, 5)].map(Point::from);
+    let sides = [(right, high), (high, low), (low, right)];
+    let mut triangle = sides.map(|(tail, head)| Edge::new(tail, head, 7));
+    sort_into_sweep_order(&mut triangle);
+    assert_eq!(triangle.map(Edge::top), [right, high, high]);
+    let outlines = Outlines::of_edges(&triangle)?;
+    let points: Vec<Vec<Point>> = outlines.iter().map(|one| one.points().collect()).collect();
+    assert_eq!(points, [[high, low, right]]);
+    for outline in &outlines {
+        assert_eq!((outline.number(), outline.film()), (1, 7));
+        assert_eq!(outline.edges().len(), 3);
+    }
+    Ok(())
+}
+
+#[test]
+fn plain_lists() -> Result<(), Refusal> {
+    let edges = read_edges(&TRIANGLE)?;
+    assert_eq!(edges[0], Edge::new(Point::new(0, 0), Point::new(4, 2), 7));
+    assert_eq!(write_edges(&edges), TRIANGLE);
+    assert_eq!(read_edges(&[0, 0, 4, 2]), Err(Refusal::NotWhole));
+    for film in [-1, 256] {
+        let list = [&TRIANGLE[..], &[1, 2, 3, 4, film]].concat();
+        let refusal = Refusal::FilmPastRange { edge: 3 };
+        assert_eq!(read_edges(&list), Err(refusal));
+    }
+    Ok(())
+}
+
+#[test]
+fn the_cells_of_a_bitmap() -> Result<(), Refusal> {
+    let (film, none) = (Some(7), None);
+    let edges = from_pixels(&[[film, none], [none, film]]);
+    let outlines = Outlines::of_edges(&edges)?;
+    let lengths: Vec<usize> = outlines.iter().map(|one| one.edges().len()).collect();
+    assert_eq!(lengths, [4, 4]);
+    let cells = [film, none, none, film];
+    let rows: Vec<&[Option<u8>]> = cells.chunks(2).collect();
+    assert_eq!(from_pixels(&rows), edges);
+    Ok(())
+}
+
+#[test]
+fn a_bitmap_that_is_text() {
+    let fault = pixels::sheet("#.\n.?\n").unwrap_err();
+    assert_eq!((fault.line, fault.column, fault.character), (2, 2, '?'));
+    let sheet = pixels::sheet("#.\n.#\n").unwrap();
+    assert_eq!(Outlines::of(&sheet).map(|them| them.count()), Ok(2));
 }
 
 #[test]
@@ -45,6 +98,8 @@ fn a_turn_list() {
     let mut places = [0; 4];
     assert_eq!(turns(&polygons, &sequences, &mut places), Ok(2));
     assert_eq!(places, [1, 3, 2, 0]);
+    let repeated = turns(&[1, 1], &[0, 0], &mut [0; 2]);
+    assert_eq!(repeated, Err(Refusal::PairRepeated { edge: 1 }));
 }
 
 #[test]
@@ -77,9 +132,15 @@ fn no_outline() -> Result<(), Refusal> {
 
 #[test]
 fn a_refusal() {
-    let refusal = Outlines::of(&[5, 5, 5, 5, 0]).unwrap_err();
-    assert_eq!(refusal, Refusal::EqualEnds { edge: 0 });
-    assert_eq!((refusal.number(), refusal.place()), (6, 0));
+    let refusal = Outlines::of(&[0, 0, 4, 2, 7, 5, 5, 5, 5, 7]).unwrap_err();
+    assert_eq!(refusal, Refusal::EqualEnds { edge: 1 });
+    let said = (refusal.number(), refusal.place(), refusal.word());
+    assert_eq!(said, (6, 1, "EqualEnds"));
+    assert_eq!(
+        refusal.to_string(),
+        "edge 1 (counted from 0) begins and ends at the same point \
+         (refusal 6, EqualEnds): leave it out"
+    );
 }
 
 fn place(first: f32, second: f32) -> Place {
@@ -124,16 +185,26 @@ fn all_instructions() -> Result<(), Refusal> {
     Ok(())
 }
 
+/// They end after the last, and a refusal comes once.
+#[test]
+fn instructions_on_lent_slices() -> Result<(), Refusal> {
+    let all = |turns| instructions(Machine::Flatbed, &TRIANGLE, &[1, 1, 1], &[1, 2, 0], turns);
+    let told: Vec<Instruction> = all(&[2, 0, 1]).collect::<Result<_, Refusal>>()?;
+    assert_eq!(told.len(), 5);
+    assert_eq!(told[0], Instruction::Travel(place(0.015625, 0.078125)));
+    assert_eq!(told[4], Instruction::Lift);
+    let differ = Refusal::TurnsDiffer { position: 1 };
+    assert_eq!(all(&[2, 1, 0]).collect::<Vec<_>>(), [Err(differ)]);
+    Ok(())
+}
+
 /// All decimals and none too many, and no minus before zero.
 #[test]
 fn instructions_as_text() {
+    let far = 999_999.0 / 64.0;
     let cases = [
         (0.03125, -15_625.0, "0.03125 -15625"),
-        (
-            15_624.984_375,
-            -15_624.984_375,
-            "15624.984375 -15624.984375",
-        ),
+        (far, -far, "15624.984375 -15624.984375"),
         (100.0, 0.015625, "100 0.015625"),
         (-0.5, 1.0, "-0.5 1"),
         (-0.0, 0.0, "0 0"),
