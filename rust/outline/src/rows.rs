@@ -1,6 +1,5 @@
 //! How many rows to lend.
 
-use crate::point::Point;
 use crate::{MOST_EDGES, NUMBERS_PER_EDGE};
 
 /// A number of rows with which refusal 10 never comes: 1 + F(C - 2), the whole
@@ -18,8 +17,8 @@ use crate::{MOST_EDGES, NUMBERS_PER_EDGE};
 /// accepted too.
 ///
 /// For a list that the engine refuses, whatever its fault, any number would do.
-/// The cost is that of sorting the edges' ends, for which it takes 64 KB of stack;
-/// nothing is allocated.
+/// The cost is that of sorting the edges' ends, for which it takes up to 64 KB of
+/// stack; nothing is allocated.
 ///
 /// ```
 /// let two_peaks = [3, 2, 1, 6, 0, 1, 6, 3, 0, 0, 3, 0, 6, 8, 0, 6, 8, 3, 2, 0];
@@ -35,45 +34,78 @@ pub fn rows_enough(edges: &[i32]) -> usize {
     if count == 0 || count > MOST_EDGES {
         return 0;
     }
+    let passing = if count <= FEW_EDGES {
+        passing::<FEW_EDGES>(edges)
+    } else {
+        passing::<MOST_EDGES>(edges)
+    };
     // Where no two edges pass one point an outline is open, and the list refused.
-    1 + whole_log2(count) * passing(edges).saturating_sub(2)
+    1 + whole_log2(count) * passing.saturating_sub(2)
 }
+
+/// So many edges are sorted in less room, which costs less to clear.
+const FEW_EDGES: usize = 64;
 
 /// C: the most edges that pass any one point. Going up, an edge begins to pass
 /// just above its bottom and passes its top as the last point, so the most is
-/// met at a top. For at most as many edges as a list may hold.
-fn passing(edges: &[i32]) -> usize {
-    let (mut bottoms, mut tops) = (
-        [Point::new(0, 0); MOST_EDGES],
-        [Point::new(0, 0); MOST_EDGES],
-    );
-    let bottoms = sorted_ends(edges, &mut bottoms, Point::min);
-    let tops = sorted_ends(edges, &mut tops, Point::max);
-    let passing = |top: &Point| below(bottoms, *top) - below(tops, *top);
+/// met at a top. There must be room for all edges.
+fn passing<const ROOM: usize>(edges: &[i32]) -> usize {
+    let (mut bottoms, mut tops) = ([0; ROOM], [0; ROOM]);
+    let bottoms = sorted_ends(edges, &mut bottoms, u64::min);
+    let tops = sorted_ends(edges, &mut tops, u64::max);
+    let (mut begun, mut ended) = (0, 0);
+    let passing = |top: &u64| {
+        begun += below(&bottoms[begun..], *top);
+        ended += below(&tops[ended..], *top);
+        begun - ended
+    };
     tops.iter().map(passing).max().unwrap_or(0)
 }
 
-/// How many of these points, which stand lowest first, are below a point.
-fn below(points: &[Point], point: Point) -> usize {
-    points.partition_point(|other| *other < point)
+/// How many at the front of these ranks, the lowest first, are below another.
+fn below(ranks: &[u64], rank: u64) -> usize {
+    ranks.iter().take_while(|other| **other < rank).count()
 }
 
-/// One end of each edge, lowest first, in room that is lent.
+/// The rank of one end of each edge, the lowest first, in room that is lent.
 fn sorted_ends<'a>(
     edges: &[i32],
-    room: &'a mut [Point],
-    one_of: fn(Point, Point) -> Point,
-) -> &'a [Point] {
+    room: &'a mut [u64],
+    one_of: impl Fn(u64, u64) -> u64,
+) -> &'a [u64] {
     let edges = edges.chunks_exact(NUMBERS_PER_EDGE);
     let ends = &mut room[..edges.len()];
     for (end, edge) in ends.iter_mut().zip(edges) {
-        *end = one_of(Point::new(edge[0], edge[1]), Point::new(edge[2], edge[3]));
+        *end = one_of(rank(edge[0], edge[1]), rank(edge[2], edge[3]));
     }
     ends.sort_unstable();
     ends
 }
 
+/// A point as one number, the greater the higher it is: y, and then x.
+fn rank(x: i32, y: i32) -> u64 {
+    let from_least = |number: i32| u64::from(number.wrapping_sub(i32::MIN) as u32);
+    from_least(y) << 32 | from_least(x)
+}
+
 /// How many times a number above 0 can be halved before it is 1.
 fn whole_log2(number: usize) -> usize {
     (usize::BITS - 1 - number.leading_zeros()) as usize
+}
+
+#[cfg(test)]
+mod tests {
+    use super::rank;
+
+    #[test]
+    fn ranks_rise_with_y_and_then_with_x() {
+        let rising = [i32::MIN, -1_000_000, -1, 0, 1, 1_000_000, i32::MAX];
+        let points = rising.iter().flat_map(|y| rising.map(|x| (x, *y)));
+        let mut before = None;
+        for (x, y) in points {
+            let rank = Some(rank(x, y));
+            assert!(rank > before, "({}, {})", x, y);
+            before = rank;
+        }
+    }
 }
