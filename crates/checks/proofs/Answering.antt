@@ -20,7 +20,7 @@ use Rattle.sheet.specs.Edges.{edgesIn, drawingOf}
 use Rattle.sheet.specs.Answers.{Call, notWhole, tooMany, listsDiffer, journalShort, pastRange, filmPastRange, equalEnds, edgeFault, faultOf, repeats, uneven, notAlternating, refuseIf, refuseFirst, checked}
 use Rattle.checks.specs.declared.places.AtFault.{AtFault}
 use Rattle.checks.specs.Stages.{andThen, listChecked, lengthsChecked, edgesChecked, edgeFaultAlone, edgesAloneChecked, placesChecked}
-use Rattle.checks.specs.Faults.{EndsFit}
+use Rattle.ends.specs.Fitting.{EndsFit}
 use Rattle.checks.specs.Places.{firstAtFault}
 use Rattle.checks.specs.Corners.{cornersSeen}
 use Rattle.checks.proofs.EdgeFaults.{none-alone, none-of}

@@ -29,12 +29,12 @@ use Rattle.corner.proofs.Sides.{side, sideOf, Sided}
 use Rattle.corner.proofs.SidesOfPoints.{side-below, side-above}
 use Rattle.corner.proofs.Corners.{alternate-is, apart-is}
 use Rattle.corner.proofs.Sizes.{near, cross-fits}
-use Rattle.checks.specs.Faults.{EndsFit}
-use Rattle.checks.specs.Ends.{wayNumber, fromNumber, wordOf, keyIn, placeIn, edgeIn, IsEnd}
+use Rattle.ends.specs.Fitting.{EndsFit}
+use Rattle.ends.specs.Ends.{wayNumber, fromNumber, wordOf, keyIn, placeIn, edgeIn, IsEnd}
 use Rattle.checks.specs.Places.{AtPlace}
 use Rattle.checks.specs.Corners.{parts, turnIn, SoundEnds}
-use Rattle.checks.proofs.EdgeFaults.{tail-in, head-in, film-in}
-use Rattle.checks.proofs.Words.{from-small, way-small, word-key, rises-to, falls-to}
+use Rattle.ends.proofs.Fitting.{tail-in, head-in, film-in}
+use Rattle.ends.proofs.Words.{from-small, way-small, word-key, rises-to, falls-to}
 use Rattle.checks.proofs.ByWords.{one-way, one-from, number-told, place-told, edge-told, key-way}
 use Rattle.checks.proofs.Visiting.{ends-between}
 

@@ -19,12 +19,12 @@ use Rattle.sheet.specs.Edges.{edgesIn, drawingOf}
 use Rattle.sheet.specs.Kinds.{Way, arriving, leaving, From, below, above, sameFrom, endOf, comes, numberAt}
 use Rattle.sheet.specs.Answers.{sameKind, repeats, differ, uneven, tangled, notAlternating}
 use Rattle.checks.specs.declared.places.AtFault.{AtFault}
-use Rattle.checks.specs.Faults.{EndsFit}
-use Rattle.checks.specs.Ends.{wayNumber, fromNumber, wordOf, keyIn, placeIn, edgeIn, arrivesIn, Ordered}
+use Rattle.ends.specs.Fitting.{EndsFit}
+use Rattle.ends.specs.Ends.{wayNumber, fromNumber, wordOf, keyIn, placeIn, edgeIn, arrivesIn, Ordered}
 use Rattle.checks.specs.Places.{Walks, repeatsIn, unevenAt, Least, FoundSoFar, firstAtFault}
 use Rattle.checks.specs.Corners.{tangledIn}
 use Rattle.checks.proofs.LeastEdge.{least-first, least-same}
-use Rattle.checks.proofs.Words.{from-small, way-small, word-edge, word-key, word-place, word-way}
+use Rattle.ends.proofs.Words.{from-small, way-small, word-edge, word-key, word-place, word-way}
 
 -- an end's edge goes this way
 abbrev goesIn : Way → List ℕ → ℕ → Bool

@@ -19,11 +19,11 @@ use Rattle.sheet.specs.Edges.{Drawing, edgeAt, edgesIn, drawingOf}
 use Rattle.sheet.specs.Kinds.{Way, arriving, leaving, below, above, endOf, comes}
 use Rattle.sheet.specs.Answers.{tangled, notAlternating}
 use Rattle.corner.specs.Turns.{alike}
-use Rattle.checks.specs.Ends.{placeIn, edgeIn}
+use Rattle.ends.specs.Ends.{placeIn, edgeIn}
 use Rattle.checks.specs.Places.{anyEnd, AtPlace, Least}
 use Rattle.checks.specs.Corners.{topPlace, parts, Marked, noMarks, SoundEnds, tangledIn, CornersSoFar}
 use Rattle.checks.proofs.LeastEdge.{least-none, least-start, least-join, least-same}
-use Rattle.checks.proofs.Words.{rises-to, falls-to}
+use Rattle.ends.proofs.Words.{rises-to, falls-to}
 use Rattle.checks.proofs.ByWords.{place-told, tangle-first}
 use Rattle.checks.proofs.AtCorners.{kindNumber, FourEnds, four-ends, lowTurn, highTurn, tangled-is, parts-is, tangled-parts}
 

@@ -3,24 +3,24 @@
 use mathlib.Core.Path.{_≡_, refl, sym, ap, _∙_}
 use mathlib.Core.Bool.{Bool, true, false, cond, _||_}
 use mathlib.Core.List.{List}
-use Prim.Native.Nat.{ℕ, zero, suc, _+_, _<_, max}
+use Prim.Native.Nat.{ℕ, zero, suc, _+_, max}
 use native.Mathlib.Numerals.{add-one}
 use native.Mathlib.Omega.{arith}
 use lib.Dec.{eqb, ltb}
 use lib.IntN.{ℤ}
 use borrow.Author.Tests.{le-ltb}
-use Rattle.laws.proofs.Deciding.{both-true, neither-true}
-use Rattle.laws.proofs.Tests.{not-false}
+use Rattle.laws.proofs.Deciding.{neither-true}
 use Rattle.laws.proofs.Searching.{NoneBelow}
 use Rattle.sheet.specs.declared.Edge.{Edge}
-use Rattle.sheet.specs.Points.{inRange, isFilm, isSame, isUp, topOf}
+use Rattle.sheet.specs.Points.{inRange, isUp, topOf}
 use Rattle.sheet.specs.Rank.{rank}
 use Rattle.sheet.specs.Edges.{edgeAt}
 use Rattle.sheet.specs.Answers.{pastRange, filmPastRange, equalEnds, topFalls, edgeFault}
 use Rattle.sheet.proofs.Ranks.{rank-below, rank-same}
-use Rattle.checks.specs.Faults.{endPastRange, filmPast, limitsPassed, endsEqual, faultAlone, topBefore, EndsFit}
+use Rattle.ends.proofs.EdgeRanks.{top-by-rank}
+use Rattle.ends.proofs.Fitting.{in-range-of}
+use Rattle.checks.specs.Faults.{endPastRange, filmPast, limitsPassed, endsEqual, faultAlone, topBefore}
 use Rattle.checks.specs.Stages.{edgeFaultAlone}
-use Rattle.checks.proofs.EdgeRanks.{top-by-rank}
 
 -- with both ends in the range the top is, whichever it is
 pub top-in-range : (e : Edge) → inRange (e .tail) ≡ true → inRange (e .head) ≡ true → inRange (topOf e) ≡ true
@@ -81,10 +81,6 @@ none-of s e none =
 pub past-fault : (s : List ℤ) (e : ℕ) → (pastRange s e || filmPastRange s e) ≡ true → edgeFault s e ≡ true
 past-fault s e h = sym (or-assoc (pastRange s e) (filmPastRange s e) (equalEnds s e || topFalls s e)) ∙ rw h
 
-in-range-of : (s : List ℤ) (e : ℕ) → pastRange s e ≡ false → (inRange (edgeAt s e .tail) ≡ true) × (inRange (edgeAt s e .head) ≡ true)
-unfolding pastRange
-in-range-of s e h = both-true (inRange (edgeAt s e .tail)) (inRange (edgeAt s e .head)) (not-false _ h)
-
 top-in : (s : List ℤ) (e : ℕ) → pastRange s e ≡ false → inRange (topOf (edgeAt s e)) ≡ true
 top-in s e h = let w = in-range-of s e h in top-in-range (edgeAt s e) (w .0) (w .1)
 
@@ -115,18 +111,3 @@ module _ (s : List ℤ) (e : ℕ) (limits : (pastRange s e || filmPastRange s e)
   pub top-next : u ≡ topBefore s (e + 1)
   unfolding topBefore
   top-next = rw add-one top-rank
-
-module _ {s : List ℤ} {n : ℕ} (E : EndsFit s n) (e : ℕ) (l : e < n) where
-  pub tail-in : inRange (edgeAt s e .tail) ≡ true
-  tail-in = in-range-of s e (E .in-range e l) .0
-
-  pub head-in : inRange (edgeAt s e .head) ≡ true
-  head-in = in-range-of s e (E .in-range e l) .1
-
-  pub film-in : isFilm (edgeAt s e .film) ≡ true
-  unfolding filmPastRange
-  film-in = not-false _ (E .on-film e l)
-
-  pub ends-differ : isSame (edgeAt s e .tail) (edgeAt s e .head) ≡ false
-  unfolding equalEnds
-  ends-differ = E .two-ends e l

@@ -1,9 +1,6 @@
 -- The laws behind the checks, each after those that it rests on.
-pub mod EdgeRanks
 pub mod EdgeFaults
 pub mod LeastEdge
-pub mod Words
-pub mod Guessing
 pub mod Visiting
 pub mod ByWords
 pub mod AtCorners

@@ -31,8 +31,9 @@ use Rattle.sheet.proofs.Following.{goesOn, OnSide, by-side, by-turning}
 use Rattle.sheet.proofs.Checked.{Checked}
 use Rattle.corner.proofs.Sides.{Sided}
 use Rattle.corner.proofs.Corners.{apart-is, rule-is}
-use Rattle.checks.specs.Faults.{EndsFit}
-use Rattle.checks.proofs.EdgeFaults.{top-in-range, none-of, tail-in, head-in, film-in, ends-differ}
+use Rattle.ends.specs.Fitting.{EndsFit}
+use Rattle.ends.proofs.Fitting.{tail-in, head-in, film-in, ends-differ}
+use Rattle.checks.proofs.EdgeFaults.{top-in-range, none-of}
 use Rattle.checks.proofs.Answering.{ends-fit}
 use Rattle.checks.proofs.AtCorners.{corner-sided}
 use Rattle.checks.proofs.AnswerSheet.{LengthsFit, PlacesSound, Row, no-row, exactly}

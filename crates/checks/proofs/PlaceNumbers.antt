@@ -19,11 +19,11 @@ use Rattle.sheet.specs.declared.Refusal.{Refusal}
 use Rattle.sheet.specs.Amounts.{mostEdges}
 use Rattle.sheet.specs.Edges.{edgesIn, drawingOf}
 use Rattle.sheet.specs.Kinds.{Way, endOf}
-use Rattle.checks.specs.Faults.{EndsFit}
-use Rattle.checks.specs.Ends.{wayNumber, wordOf, placeIn, edgeIn, Ordered}
+use Rattle.ends.specs.Fitting.{EndsFit}
+use Rattle.ends.specs.Ends.{wayNumber, wordOf, placeIn, edgeIn, Ordered}
 use Rattle.checks.specs.Places.{Walks}
 use Rattle.checks.specs.Numbers.{placeNumber, noNumbers, Numbered, NumbersAfter, endIn, OneEach, NumbersSoFar}
-use Rattle.checks.proofs.Words.{way-small, word-edge, word-place, word-way}
+use Rattle.ends.proofs.Words.{way-small, word-edge, word-place, word-way}
 use Rattle.checks.proofs.ByWords.{one-way, one-spot}
 use Rattle.checks.proofs.CornersMarked.{no-mark}
 

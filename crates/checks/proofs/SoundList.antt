@@ -18,8 +18,8 @@ use Rattle.sheet.specs.Sound.{Sound}
 use Rattle.sheet.specs.Answers.{sameKind, repeats, differ, uneven}
 use Rattle.sheet.proofs.AtAPlace.{same-self}
 use Rattle.checks.specs.declared.places.AtFault.{AtFault}
-use Rattle.checks.specs.Faults.{EndsFit}
-use Rattle.checks.specs.Ends.{Ordered}
+use Rattle.ends.specs.Fitting.{EndsFit}
+use Rattle.ends.specs.Ends.{Ordered}
 use Rattle.checks.specs.Places.{Walks, firstAtFault}
 use Rattle.checks.specs.Corners.{SoundEnds}
 use Rattle.checks.proofs.Answering.{none-repeats, none-uneven}

@@ -16,7 +16,7 @@ use Rattle.laws.proofs.Counting.{count-more, count-all}
 use Rattle.laws.proofs.Between.{count-between}
 use Rattle.laws.proofs.Either.{count-either}
 use Rattle.checks.specs.declared.places.AtFault.{AtFault}
-use Rattle.checks.specs.Ends.{keyIn, placeIn, edgeIn, arrivesIn}
+use Rattle.ends.specs.Ends.{keyIn, placeIn, edgeIn, arrivesIn}
 use Rattle.checks.specs.Places.{Walks, Visited, AtPlace, repeatsIn, arrivesAt, leavesAt, unevenAt, passedThrough, anyEnd, Least, FoundSoFar}
 use Rattle.checks.proofs.LeastEdge.{least-start, least-before, least-join, least-on}
 

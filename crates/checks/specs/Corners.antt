@@ -16,8 +16,8 @@ use Rattle.sheet.specs.Edges.{Drawing, edgesIn, drawingOf}
 use Rattle.sheet.specs.Corners.{apart}
 use Rattle.sheet.specs.Sound.{Sound}
 use Rattle.sheet.specs.Answers.{numberOf, tangled}
-use Rattle.checks.specs.Faults.{EndsFit}
-use Rattle.checks.specs.Ends.{placeIn, edgeIn, Ordered}
+use Rattle.ends.specs.Fitting.{EndsFit}
+use Rattle.ends.specs.Ends.{placeIn, edgeIn, Ordered}
 use Rattle.checks.specs.Places.{Walks, Least}
 
 -- the place of an edge's top

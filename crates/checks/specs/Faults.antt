@@ -1,18 +1,14 @@
--- 5, 16 and 6 said of one edge, what 7 compares its top with, and the lists that the places can be told of.
-use mathlib.Core.Path.{_≡_}
-use mathlib.Core.Bool.{Bool, false, not, cond, _&&_, _||_}
+-- 5, 16 and 6 said of one edge, and what 7 compares its top with.
+use mathlib.Core.Bool.{Bool, not, cond, _&&_, _||_}
 use mathlib.Core.List.{List}
-use Prim.Native.Nat.{ℕ, zero, suc, _*_, _≤_, _<_}
+use Prim.Native.Nat.{ℕ, zero, suc}
 use lib.IntN.{ℤ}
-use lib.ListN.{length}
 use Rattle.sheet.specs.declared.Edge.{Edge}
 use Rattle.sheet.specs.declared.Refusal.{Refusal}
 use Rattle.sheet.specs.declared.Refusal.the-variants.{PastRange, FilmPastRange, EqualEnds, TopFalls}
 use Rattle.sheet.specs.Points.{inRange, isFilm, isSame, topOf}
 use Rattle.sheet.specs.Rank.{rank}
-use Rattle.sheet.specs.Edges.{edgeAt, edgesIn}
-use Rattle.sheet.specs.Answers.{pastRange, filmPastRange, equalEnds}
-use Rattle.sheet.specs.Amounts.{numbersPerEdge, mostEdges}
+use Rattle.sheet.specs.Edges.{edgeAt}
 
 unfoldable pub endPastRange : Edge → Bool
 endPastRange e = not (inRange (e .tail) && inRange (e .head))
@@ -37,12 +33,3 @@ topBefore s (suc e) = rank (topOf (edgeAt s e))
 -- at an edge, 5 is tried before 16, 16 before 6 and 6 before 7
 abbrev pub firstRefusal : Bool → Bool → Bool → ℕ → Refusal
 firstRefusal past film equal e = cond past (PastRange e) (cond film (FilmPastRange e) (cond equal (EqualEnds e) (TopFalls e)))
-
--- A list of n edges that passes 2, 5, 16 and 6: its ends and films fit into words, and each edge has two ends. Whether the tops fall is not asked.
-pub record EndsFit (s : List ℤ) (n : ℕ) : Type 0 where
-  pub all : n ≡ edgesIn s
-  pub few : n ≤ mostEdges
-  pub long : numbersPerEdge * n ≤ length s
-  pub in-range : (e : ℕ) → e < n → pastRange s e ≡ false
-  pub on-film : (e : ℕ) → e < n → filmPastRange s e ≡ false
-  pub two-ends : (e : ℕ) → e < n → equalEnds s e ≡ false

@@ -12,7 +12,7 @@ use Rattle.sheet.specs.declared.Refusal.{Refusal}
 use Rattle.sheet.specs.Amounts.{mostEdges}
 use Rattle.sheet.specs.Edges.{edgesIn, drawingOf}
 use Rattle.sheet.specs.Kinds.{Way, endOf}
-use Rattle.checks.specs.Ends.{wayNumber, placeIn, edgeIn, Ordered}
+use Rattle.ends.specs.Ends.{wayNumber, placeIn, edgeIn, Ordered}
 
 -- half the ends that are lower than a place of one of n edges
 unfoldable pub placeNumber : List ℕ → ℕ → ℕ → ℕ

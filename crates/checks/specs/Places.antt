@@ -11,7 +11,7 @@ use Rattle.laws.specs.Counting.{count, first}
 use Rattle.sheet.specs.Edges.{edgesIn, drawingOf}
 use Rattle.sheet.specs.Answers.{repeats, uneven}
 use Rattle.checks.specs.declared.places.AtFault.{AtFault}
-use Rattle.checks.specs.Ends.{keyIn, placeIn, edgeIn, arrivesIn}
+use Rattle.ends.specs.Ends.{keyIn, placeIn, edgeIn, arrivesIn}
 
 unfoldable pub firstAtFault : List ℤ → AtFault
 firstAtFault s = record { repeated = first (repeats (drawingOf s)) (edgesIn s); uneven = first (uneven (drawingOf s)) (edgesIn s) }

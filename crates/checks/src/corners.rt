@@ -1,12 +1,12 @@
 // 17, and a mark for each edge whose top is apart, of a list that passes 8 and 9: a place then has two ends, or four, an edge of each kind. The walk over
 // places is that of 8 and 9; what is done at a place is `at_place`.
-use crate::ends;
+use crate::visits;
 use sheet::Edge;
 ghost use mathlib.Core.Path.{_≡_};
 ghost use Prim.Native.Nat.{_+_, _*_, _<_};
 ghost use Rattle.sheet.specs.Turning.{plus, isSign, cross};
 ghost use Rattle.sheet.specs.Edges.{drawingOf};
-ghost use Rattle.checks.specs.Faults.{EndsFit};
+ghost use Rattle.ends.specs.Fitting.{EndsFit};
 ghost use Rattle.checks.specs.Places.{AtPlace};
 ghost use Rattle.corner.specs.Turns.{alike};
 ghost use Rattle.checks.specs.Corners.{turnIn, SoundEnds, CornersSoFar, noMarks};
@@ -65,7 +65,7 @@ fn at_four(
     let incoming = ends::edge_of(words[from + 2]);
     let outgoing = ends::edge_of(words[from]);
     if !alternate(edges, n, arriving, leaving, incoming, outgoing) {
-        return laws::lower_of(found, ends::least_edge(words, from, from + 4, n));
+        return laws::lower_of(found, visits::least_edge(words, from, from + 4, n));
     }
     if !parts(edges, n, arriving, leaving) {
         return found;
@@ -103,7 +103,7 @@ pub fn walk(edges: &[i32], n: usize, words: &[u64], apart: &mut [u8]) -> usize
     let mut found = n;
     let mut from: usize = 0;
     while from < 2 * n {
-        let to = ends::place_end(words, from, 2 * n);
+        let to = visits::place_end(words, from, 2 * n);
         found = at_place(edges, n, words, from, to, apart, found);
         from = to;
     }

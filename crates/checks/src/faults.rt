@@ -1,5 +1,5 @@
 // 5, 16, 6 and 7: what is wrong with one edge, or with its top after the top of the edge before.
-use crate::ranks;
+use ends::ranks;
 use sheet::Check;
 use sheet::Edge;
 use sheet::Refusal;

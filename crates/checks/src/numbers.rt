@@ -1,6 +1,5 @@
 // The places of a list's ends by number, of a list that passes the checks. In order the ends of one place stand together, so a place is told by how many
 // ends stand before it: half of them, since a place has two ends or four.
-use crate::ends;
 ghost use mathlib.Core.Path.{_≡_};
 ghost use Prim.Native.Nat.{_*_};
 ghost use Rattle.checks.specs.Places.{Walks};

@@ -3,9 +3,8 @@
 // 9, walks over the same ends in order.
 use crate::MOST_EDGES;
 use crate::corners;
-use crate::ends;
 use crate::numbers;
-use crate::ordering;
+use crate::visits;
 use sheet::Check;
 use sheet::Edge;
 use sheet::Refusal;
@@ -16,9 +15,9 @@ ghost use lib.Dec.{eqb};
 ghost use lib.ListN.{length};
 ghost use Rattle.laws.specs.Counting.{count};
 ghost use Rattle.sheet.specs.Edges.{edgesIn};
-ghost use Rattle.checks.specs.Faults.{EndsFit};
+ghost use Rattle.ends.specs.Fitting.{EndsFit};
 ghost use Rattle.checks.specs.Stages.{placesChecked};
-ghost use Rattle.checks.specs.Ends.{edgeIn, arrivesIn, Ordered};
+ghost use Rattle.ends.specs.Ends.{edgeIn, arrivesIn, Ordered};
 ghost use Rattle.checks.specs.Places.{firstAtFault, Least, repeatsIn, unevenAt, passedThrough, Walks, AtPlace, FoundSoFar};
 ghost use Rattle.checks.specs.Corners.{noMarks, MarksAfter};
 ghost use Rattle.checks.specs.Numbers.{noNumbers, NumbersAfter};
@@ -82,7 +81,7 @@ fn least_uneven(words: &[u64], m: usize, from: usize, to: usize, none: usize) ->
     if 2 * arriving(words, from, to) == to - from {
         return none;
     }
-    ends::least_edge(words, from, to, none)
+    visits::least_edge(words, from, to, none)
 }
 
 // Whether a place has two ends, one that arrives and one that leaves. Nearly all places do.
@@ -124,7 +123,7 @@ fn walk(words: &[u64], m: usize, none: usize) -> AtFault
     };
     let mut from: usize = 0;
     while from < m {
-        let to = ends::place_end(words, from, m);
+        let to = visits::place_end(words, from, m);
         found = at_place(words, m, from, to, found, none);
         from = to;
     }
@@ -137,7 +136,7 @@ fn first_at_fault(edges: &[i32], n: usize, words: &mut [u64]) -> AtFault
     ensures { λ r. ⌜ r ≡ firstAtFault (now (edges .entry)) ⌝ }
     ensures { λ _. ⌜ Ordered (now (edges .entry)) (now (words .exit)) n × Walks (now (words .exit)) (2 * n) ⌝ }
 {
-    ordering::order(edges, words, n);
+    ends::ordering::order(edges, words, n);
     walk(words, 2 * n, n)
 }
 

@@ -14,7 +14,7 @@ use Rattle.sheet.specs.declared.Check.the-variants as check
 use Rattle.sheet.specs.Edges.{edgesIn}
 use Rattle.checks.specs.Stages.{andThen, listChecked, edgesAloneChecked}
 use Rattle.checks.proofs.Answering.{alone-fit}
-use Rattle.checks.proofs.EdgeFaults.{tail-in, head-in}
+use Rattle.ends.proofs.Fitting.{tail-in, head-in}
 use Rattle.cutter.specs.declared.machines.Machine.{Machine}
 use Rattle.cutter.specs.declared.CutRefusal.{CutRefusal}
 use Rattle.cutter.specs.declared.CutRefusal.the-variants.{Edges, HeadNotTail}

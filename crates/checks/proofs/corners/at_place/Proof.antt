@@ -4,7 +4,7 @@ use Prim.Native.Nat.{_+_, _-_, _*_}
 use native.Mathlib.Omega.{arith}
 use borrow.Author.Tests.{ne-eqb}
 use borrow.Author.Needs.{needs}
-use Rattle.checks.specs.Ends.{placeIn}
+use Rattle.ends.specs.Ends.{placeIn}
 use Rattle.checks.specs.Places.{AtPlace}
 use Rattle.checks.proofs.AtCorners.{four-is, two-parts}
 use Rattle.checks.proofs.CornersMarked.{nothing-more, same-end}

@@ -1,7 +1,7 @@
 -- `checks::corners::turn` meets its contract: the second edge leaves from the head of the first.
 use borrow.Author.Needs.{needs}
 use Rattle.sheet.specs.Edges.{drawingOf}
-use Rattle.checks.proofs.EdgeFaults.{tail-in, head-in}
+use Rattle.ends.proofs.Fitting.{tail-in, head-in}
 use Rattle.checks.proofs.AtCorners.{leaves-at, turn-kept}
 use Rattle.checks.proofs.corners.turn.Statement.{statement}
 use Rattle.checks.proofs.corners.turn.Tie as tie

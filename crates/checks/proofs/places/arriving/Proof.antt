@@ -5,7 +5,7 @@ use native.Mathlib.Omega.{arith}
 use borrow.Author.Needs.{needs}
 use Rattle.laws.specs.Counting.{count}
 use Rattle.laws.proofs.Counting.{count-le}
-use Rattle.checks.specs.Ends.{arrivesIn}
+use Rattle.ends.specs.Ends.{arrivesIn}
 use Rattle.checks.proofs.Visiting.{arriving-more}
 use Rattle.checks.proofs.places.arriving.Statement.{statement}
 use Rattle.checks.proofs.places.arriving.Tie as tie

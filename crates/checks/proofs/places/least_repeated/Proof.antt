@@ -1,7 +1,7 @@
 -- `checks::places::least_repeated` meets its contract. The loop's invariant: of the ends before k the least edge is found.
 use Prim.Native.Nat.{_+_, _≤_, _-_}
 use borrow.Author.Needs.{needs}
-use Rattle.checks.specs.Ends.{edgeIn}
+use Rattle.ends.specs.Ends.{edgeIn}
 use Rattle.checks.specs.Places.{repeatsIn, Least}
 use Rattle.checks.proofs.LeastEdge.{least-start, least-more, least-end}
 use Rattle.checks.proofs.Visiting.{repeats-told}
