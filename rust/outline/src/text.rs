@@ -1,8 +1,12 @@
 //! Sheets as text, in the form that the program `outline` reads: a line an
 //! edge, five whole numbers with one space between, a newline after. The
 //! program's own limits, 512 lines and 20,480 bytes, are not kept here; a list
-//! may be as long as the engine takes it. Needs the feature `std`.
+//! may be as long as the engine takes it. And what is made of a sheet as text:
+//! its numbers, as that program prints them, and its instructions. Needs the
+//! feature `std`.
 
+use crate::instructions::{Instruction, Machine};
+use crate::outlines::Outlines;
 use crate::refusal::Refusal;
 use crate::NUMBERS_PER_EDGE;
 
@@ -90,4 +94,42 @@ pub fn write_sheet(edges: &[i32]) -> String {
         words.join(" ") + "\n"
     };
     edges.chunks_exact(NUMBERS_PER_EDGE).map(line).collect()
+}
+
+/// The numbers of a sheet as the program `outline` prints them: `accepted`, how
+/// many outlines there are, the most rows in use and how many records; then the
+/// edges from the last to the first, each with its place, outline and sequence
+/// number.
+///
+/// ```
+/// use outline::{text::write_numbers, Outlines};
+///
+/// let triangle = Outlines::of(&[0, 0, 4, 2, 7, 4, 2, 1, 5, 7, 1, 5, 0, 0, 7])?;
+/// assert_eq!(write_numbers(&triangle), "accepted 1 1 4\n2 1 0\n1 1 2\n0 1 1\n");
+/// # Ok::<(), outline::Refusal>(())
+/// ```
+#[must_use]
+pub fn write_numbers(outlines: &Outlines) -> String {
+    let (count, peak, records) = (outlines.count(), outlines.peak(), outlines.records());
+    let head = format!("accepted {} {} {}\n", count, peak, records);
+    let edges = outlines.polygons().iter().zip(outlines.sequences());
+    let line = |(place, (polygon, sequence))| format!("{} {} {}\n", place, polygon, sequence);
+    let lines = edges.enumerate().rev().map(line);
+    [head].into_iter().chain(lines).collect()
+}
+
+/// What a machine is told to cut a sheet, an instruction a line.
+///
+/// ```
+/// use outline::{text::write_instructions, Machine, Outlines};
+///
+/// let there_and_back = Outlines::of(&[0, 0, 64, 128, 7, 64, 128, 0, 0, 7])?;
+/// let told = write_instructions(&there_and_back, Machine::RollFeeder);
+/// assert_eq!(told, "travel 2 -1\ncut 0 0\ncut 2 -1\nlift\n");
+/// # Ok::<(), outline::Refusal>(())
+/// ```
+#[must_use]
+pub fn write_instructions(outlines: &Outlines, machine: Machine) -> String {
+    let line = |instruction: Instruction| format!("{}\n", instruction);
+    outlines.instructions(machine).map(line).collect()
 }

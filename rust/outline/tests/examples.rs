@@ -1,7 +1,7 @@
 //! The examples of the documentation, run as plain tests too: a build for
 //! another machine does not run those in the comments.
 
-use outline::text::{read_sheet, write_sheet};
+use outline::text::{read_sheet, write_instructions, write_numbers, write_sheet};
 use outline::{assemble, instruction, instructions, picture, pixels, rows_enough, turns};
 use outline::{from_pixels, read_edges, sort_into_sweep_order, write_edges};
 use outline::{Accepted, Edge, Instruction, Machine, Outlines, Place, Point, Refusal};
@@ -32,6 +32,16 @@ fn all_edges_in_all_outlines_out() -> Result<(), Refusal> {
         assert_eq!((outline.number(), outline.film()), (1, 7));
         assert_eq!(outline.edges().len(), 3);
     }
+    Ok(())
+}
+
+#[test]
+fn what_is_made_of_a_sheet_as_text() -> Result<(), Refusal> {
+    let numbers = write_numbers(&Outlines::of(&TRIANGLE)?);
+    assert_eq!(numbers, "accepted 1 1 4\n2 1 0\n1 1 2\n0 1 1\n");
+    let there_and_back = Outlines::of(&[0, 0, 64, 128, 7, 64, 128, 0, 0, 7])?;
+    let told = write_instructions(&there_and_back, Machine::RollFeeder);
+    assert_eq!(told, "travel 2 -1\ncut 0 0\ncut 2 -1\nlift\n");
     Ok(())
 }
 

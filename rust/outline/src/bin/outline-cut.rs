@@ -6,7 +6,8 @@ mod command;
 use std::process::exit;
 
 use command::Command;
-use outline::{Instruction, Machine, Outlines, Refusal};
+use outline::text::write_instructions;
+use outline::{Machine, Outlines, Refusal};
 
 const ROLL_FEEDER: &str = "--roll-feeder";
 
@@ -48,7 +49,5 @@ fn told(option: Option<&str>, edges: &[i32]) -> Result<String, Refusal> {
         Some(ROLL_FEEDER) => Machine::RollFeeder,
         _ => Machine::Flatbed,
     };
-    let outlines = Outlines::of(edges)?;
-    let line = |instruction: Instruction| format!("{}\n", instruction);
-    Ok(outlines.instructions(machine).map(line).collect())
+    Ok(write_instructions(&Outlines::of(edges)?, machine))
 }
