@@ -48,7 +48,8 @@ is partly transparent is refused: film is there or it is not. Up to 256 colours 
 4,194,304 pixels; of a picture that moves the first frame is taken.
 
 Cells: a line a row from the top down, a character a pixel: 0 to 9 and a to z for
-films 0 to 35, # for film 0 too, . or a space for no film.
+films 0 to 35, # for film 0 too, . or a space for no film. A text in which every
+line is five numbers is a sheet, and refused.
 
 A sheet holds up to 4,096 edges. A picture that has more is refused.";
 
@@ -135,7 +136,7 @@ fn cut() -> Command {
         .arg(machine_wanted())
         .arg(output())
         .after_help(format!(
-            "  workshop cut portrait.png --pixel 64 --machine flatbed -o portrait.cut\n\n{}\n\n{}",
+            "Example:\n\n  workshop cut portrait.png --pixel 64 --machine flatbed -o portrait.cut\n\n{}\n\n{}",
             A_PICTURE, AN_INSTRUCTION
         ))
 }
@@ -147,7 +148,7 @@ fn sheet() -> Command {
         .arg(pixel_wanted())
         .arg(output())
         .after_help(format!(
-            "  workshop sheet portrait.png --pixel 64 -o portrait.txt\n\n{}\n\n{}",
+            "Example:\n\n  workshop sheet portrait.png --pixel 64 -o portrait.txt\n\n{}\n\n{}",
             A_PICTURE, A_SHEET
         ))
 }
@@ -158,7 +159,7 @@ fn numbers() -> Command {
         .arg(input("SHEET"))
         .arg(output())
         .after_help(format!(
-            "  workshop numbers portrait.txt\n\n{}\n\n{}",
+            "Example:\n\n  workshop numbers portrait.txt\n\n{}\n\n{}",
             THE_NUMBERS, A_SHEET
         ))
 }
@@ -174,7 +175,7 @@ fn draw() -> Command {
         .arg(blade)
         .arg(output())
         .after_help(format!(
-            "  workshop draw portrait.txt -o portrait.svg\n\n{}",
+            "Example:\n\n  workshop draw portrait.txt -o portrait.svg\n\n{}",
             A_SHEET
         ))
 }
@@ -186,7 +187,7 @@ fn instructions() -> Command {
         .arg(machine_wanted())
         .arg(output())
         .after_help(format!(
-            "  workshop instructions portrait.txt --machine roll-feeder -o portrait.cut\n\n{}\n\n{}",
+            "Example:\n\n  workshop instructions portrait.txt --machine roll-feeder -o portrait.cut\n\n{}\n\n{}",
             AN_INSTRUCTION, A_SHEET
         ))
 }

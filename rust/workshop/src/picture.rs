@@ -2,6 +2,7 @@
 
 use std::str;
 
+use outline::text::read_sheet;
 use outline::{from_pixels, pixels, write_edges, Outlines, NUMBERS_PER_EDGE};
 
 use crate::png_picture;
@@ -22,11 +23,16 @@ pub fn outlines(bytes: &[u8], pixel: i32) -> Result<Outlines, String> {
     Outlines::of(&edges).map_err(|refusal| format!("it makes {} edges: {}", count, refusal))
 }
 
-/// The edges of a text of cells.
+/// The edges of a text of cells. The figures of a sheet would do for cells, but
+/// nobody means them so.
 fn edges_of_cells(bytes: &[u8]) -> Result<Vec<i32>, String> {
     let none = |why: String| format!("neither a PNG picture nor a text of cells: {}", why);
     if bytes.is_empty() {
         return Err(none("it is empty".to_string()));
+    }
+    if read_sheet(bytes).is_ok() {
+        let hint = "`workshop instructions` takes it; in a text of cells write . for no film";
+        return Err(format!("a sheet, and no picture: {}", hint));
     }
     let text = str::from_utf8(bytes).map_err(|error| {
         let place = error.valid_up_to();

@@ -8,7 +8,7 @@ use std::fs;
 
 use painting::{announced, chessboard, colours, rgba, Layout};
 use png::{BitDepth, ColorType};
-use running::{fault, line_of, made, run, sample, text, Folder};
+use running::{fault, line_of, made, run, sample, sample_bytes, text, Folder};
 
 /// What the command says to a picture on standard input; both commands that take
 /// one say the same.
@@ -53,16 +53,20 @@ fn too_large() {
         let said = fault(&sheet(pixel), b"##\n");
         assert!(said.contains(" (refusal 5, PastRange): "), "{}", said);
     }
+    // So far that a number of 32 bits would come round to where it began.
+    let far = ".".repeat(4_294) + "#\n";
+    let said = fault(&sheet("1000000"), far.as_bytes());
+    assert!(said.contains(" (refusal 5, PastRange): "), "{}", said);
 }
 
 #[test]
 fn partly_transparent() {
-    let (film, half) = ([1, 2, 3, 255], [1, 2, 3, 128]);
-    let said = "row 2, column 3: a pixel that is partly transparent, alpha 128 of 255";
-    assert_eq!(
-        refused(&rgba(&[vec![film; 3], vec![film, film, half]])),
-        said
-    );
+    let film = [1, 2, 3, 255];
+    for alpha in [1, 128, 254] {
+        let picture = rgba(&[vec![film; 3], vec![film, film, [1, 2, 3, alpha]]]);
+        let said = "row 2, column 3: a pixel that is partly transparent, alpha";
+        assert_eq!(refused(&picture), format!("{} {} of 255", said, alpha));
+    }
     let layout = Layout::plain(ColorType::GrayscaleAlpha, BitDepth::Sixteen);
     let said = "row 1, column 1: a pixel that is partly transparent, alpha 255 of 65535";
     assert_eq!(refused(&layout.painted(1, &[vec![7, 255]])), said);
@@ -79,6 +83,19 @@ fn a_picture_that_is_none() {
     assert_eq!(refused(b"##\n#\xe4\n"), none("byte 5, 0xe4, is no text"));
     let said = "line 2, column 2: '*' stands for no film";
     assert_eq!(refused(b"0.\n.*\n"), none(said));
+}
+
+/// A sheet is made of figures and spaces, as a text of cells may be.
+#[test]
+fn a_sheet_for_a_picture() {
+    for sheet in [&sample_bytes("portrait.txt")[..], b"1 1 1 1 1\n"] {
+        let said = refused(sheet);
+        let begin = "a sheet, and no picture: `workshop instructions` takes it";
+        assert!(said.starts_with(begin), "{}", said);
+    }
+    let stripes = made(&["sheet"], b"1.1.1.1.1\n");
+    assert_eq!(stripes.lines().count(), 4 * 5);
+    assert_eq!(made(&["sheet"], b"1 1 1 1 1 \n"), stripes);
 }
 
 /// A PNG picture at whose end, or in whose middle, something is wrong.
@@ -106,8 +123,8 @@ fn a_broken_picture() {
 /// are missing.
 #[test]
 fn too_many_pixels() {
-    let said = "2048 by 2049 pixels: 4194304 are the most";
-    assert_eq!(refused(&announced(2_048, 2_049)), said);
+    let said = "5 by 838861 pixels: 4194304 are the most";
+    assert_eq!(refused(&announced(5, 838_861)), said);
     let most = 2_147_483_647;
     let said = "2147483647 by 2147483647 pixels: 4194304 are the most";
     assert_eq!(refused(&announced(most, most)), said);
@@ -125,6 +142,25 @@ fn no_pixels() {
     picture[29..33].copy_from_slice(&[0x6b, 0x46, 0xed, 0xa1]);
     assert_eq!(refused(&picture), "a PNG picture of 0 by 5 pixels");
 }
+
+/// The first frame of a picture that moves is to be all of it.
+#[test]
+fn a_first_frame_that_is_smaller() {
+    let said = "a PNG picture whose first frame is not all of it";
+    assert_eq!(refused(MOVING), said);
+}
+
+/// Four by four pixels, of which the first frame has two by two.
+const MOVING: &[u8] = b"\
+    \x89\x50\x4e\x47\x0d\x0a\x1a\x0a\x00\x00\x00\x0d\x49\x48\x44\x52\x00\x00\
+    \x00\x04\x00\x00\x00\x04\x08\x00\x00\x00\x00\x8c\x9a\xc1\xa2\x00\x00\x00\
+    \x08\x61\x63\x54\x4c\x00\x00\x00\x01\x00\x00\x00\x00\xb4\x2d\xe9\xa0\x00\
+    \x00\x00\x1a\x66\x63\x54\x4c\x00\x00\x00\x00\x00\x00\x00\x02\x00\x00\x00\
+    \x02\x00\x00\x00\x00\x00\x00\x00\x00\x00\x01\x00\x01\x00\x00\xe4\x01\x33\
+    \xe1\x00\x00\x00\x0e\x49\x44\x41\x54\x78\xda\x63\x60\x64\x64\x60\x64\x04\
+    \x00\x00\x12\x00\x05\x48\x71\x8f\x5a\x00\x00\x00\x00\x49\x45\x4e\x44\xae\
+    \x42\x60\x82\
+";
 
 /// A sheet is refused with the line of its text.
 #[test]

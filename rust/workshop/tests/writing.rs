@@ -6,7 +6,7 @@ use std::fs::{self, OpenOptions, Permissions};
 use std::os::unix::fs::{symlink, PermissionsExt};
 use std::os::unix::io::OwnedFd;
 use std::os::unix::net::UnixStream;
-use std::process::Stdio;
+use std::process::{Command, Stdio};
 
 use running::{ended, fault, line_of, made, workshop, Folder};
 
@@ -56,6 +56,34 @@ fn a_file_that_cannot_be_written() {
         );
     }
     assert!(folder.names().is_empty());
+}
+
+/// Where there is no room for all of it, there is nothing of it.
+#[test]
+fn a_file_that_is_broken_off() {
+    let folder = Folder::new("a_file_that_is_broken_off");
+    let old = folder.holding("old", b"as it was");
+    for target in [&old, &folder.file("new")] {
+        let child = without_room(&workshop(&["sheet", "-o", target])).spawn();
+        let said = line_of(&ended(child.unwrap(), CELLS));
+        assert!(
+            said.starts_with(&format!("cannot write {}: ", target)),
+            "{}",
+            said
+        );
+    }
+    assert_eq!(fs::read(&old).unwrap(), b"as it was");
+    assert_eq!(folder.names(), ["old"]);
+}
+
+/// The command where no file may grow.
+fn without_room(command: &Command) -> Command {
+    let limit = "trap '' XFSZ; ulimit -f 0; exec \"$@\"";
+    let mut limited = Command::new("sh");
+    limited.args(["-c", limit, "sh"]).arg(command.get_program());
+    limited.args(command.get_args()).stdin(Stdio::piped());
+    limited.stdout(Stdio::piped()).stderr(Stdio::piped());
+    limited
 }
 
 /// It is written whole, has the permissions that it had, and nothing is left
