@@ -92,6 +92,11 @@
 // Without `std` the documentation still names what is then left out.
 #![cfg_attr(not(feature = "std"), allow(rustdoc::broken_intra_doc_links))]
 
+// The examples of the README are run with those of the crate.
+#[cfg(doctest)]
+#[doc = include_str!("../../../README.md")]
+struct Readme;
+
 mod assemble;
 mod edge;
 mod engine;

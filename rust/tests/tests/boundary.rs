@@ -376,8 +376,8 @@ fn the_c_program_of_the_readme() {
     let program = readme.split("```c\n").nth(1).unwrap();
     let program = program.split("```").next().unwrap();
     let printed = printed_by("readme", program);
-    let shown = format!("./a.out\n{}", printed).replace('\n', "\n    ");
-    assert!(readme.contains(shown.trim_end()), "{}", printed);
+    let shown = format!("./a.out\n{}```", printed);
+    assert!(readme.contains(&shown), "{}", printed);
 }
 
 /// The names that an archive exports, as the linker sees them; nothing where
