@@ -3,7 +3,7 @@
 
 use std::ffi::c_void;
 use std::marker::PhantomData;
-use std::mem::size_of;
+use std::mem::{size_of, size_of_val};
 use std::os::raw::{c_int, c_long};
 use std::ptr::{copy_nonoverlapping, null_mut};
 use std::slice::from_raw_parts;
@@ -47,7 +47,7 @@ impl<T: Number> AtPageEnd<T> {
     /// # Panics
     /// When there is no memory.
     pub fn copy(inner: &[T]) -> AtPageEnd<T> {
-        let bytes = size_of::<T>() * inner.len();
+        let bytes = size_of_val(inner);
         // SAFETY: new pages are asked for, which nothing else knows of. They are
         // filled while they can be written, up to the last readable byte.
         unsafe {

@@ -67,7 +67,7 @@ fn stated_by_itself(list: &[Ends]) -> Option<(u32, u32)> {
     for (place, (tail, head, film)) in list.iter().copied().enumerate() {
         let faults = [
             past(tail.0) || past(tail.1) || past(head.0) || past(head.1),
-            film < 0 || film > 255,
+            !(0..=255).contains(&film),
             tail == head,
             place > 0 && is_below(top(list[place]), top(list[place - 1])),
         ];

@@ -64,8 +64,8 @@ fn bitmap(
     height: usize,
     mut film: impl FnMut((usize, usize)) -> Option<i32>,
 ) -> Bitmap {
-    let mut column = |x: usize| (0..height).map(|y| film((x, y))).collect();
-    (0..width).map(|x| column(x)).collect()
+    let column = |x: usize| (0..height).map(|y| film((x, y))).collect();
+    (0..width).map(column).collect()
 }
 
 /// The outlines of a bitmap.
@@ -105,14 +105,12 @@ fn bare_sides(bitmap: &Bitmap, x: i32, y: i32) -> Vec<Edge> {
         ((x + 1, y + 1), (x, y + 1), (x, y + 1)),
         ((x, y + 1), (x, y), (x - 1, y)),
     ];
-    let bare = |side: &&((i32, i32), (i32, i32), (i32, i32))| {
-        film_at(bitmap, side.2 .0, side.2 .1) != Some(film)
-    };
+    let bare = |(x, y): (i32, i32)| film_at(bitmap, x, y) != Some(film);
     let point = |(x, y): (i32, i32)| Point::new(x, y);
     sides
         .iter()
-        .filter(bare)
-        .map(|side| Edge::new(point(side.0), point(side.1), film))
+        .filter(|(_, _, behind)| bare(*behind))
+        .map(|(tail, head, _)| Edge::new(point(*tail), point(*head), film))
         .collect()
 }
 
