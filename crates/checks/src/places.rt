@@ -136,8 +136,9 @@ fn first_at_fault(edges: &[i32], n: usize, words: &mut [u64]) -> AtFault
     ensures { λ r. ⌜ r ≡ firstAtFault (now (edges .entry)) ⌝ }
     ensures { λ _. ⌜ Ordered (now (edges .entry)) (now (words .exit)) n × Walks (now (words .exit)) (2 * n) ⌝ }
 {
-    ends::ordering::order(edges, words, n);
-    walk(words, 2 * n, n)
+    let m = 2 * n;
+    ends::ordering::order(edges, &mut words[..m], n);
+    walk(words, m, n)
 }
 
 // 8 over the whole list, then 9, then 17, of a list that passes 2, 5, 16 and 6. Leaves a mark for each edge whose top is apart, and, where all are passed, the number of each

@@ -3,3 +3,5 @@ pub mod EdgeRanks
 pub mod Fitting
 pub mod Words
 pub mod Guessing
+pub mod OneOrder
+pub mod InFront
