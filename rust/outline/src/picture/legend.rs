@@ -13,20 +13,22 @@ const COLOUR: &str = "#475467";
 /// Draws the legend.
 pub fn draw(sheet: &Sheet, frame: &Frame, canvas: &mut Canvas) {
     let at = |right: f64| frame.legend() + Spot::new(right, 0.0);
-    if frame.numbered {
+    let next = if frame.numbered {
         draw_disc(at(0.0), 0.85, COLOUR, "n", canvas);
         write(at(14.0), "top of outline n", canvas);
         draw_arrow(at(126.0), canvas);
         write(at(154.0), "edge, with its sequence number", canvas);
+        358.0
     } else {
         draw_dot(at(0.0), 1.0, COLOUR, canvas);
         write(at(14.0), "top of an outline", canvas);
         draw_arrow(at(126.0), canvas);
         write(at(154.0), "edge", canvas);
-    }
+        206.0
+    };
     if !sheet.touching.is_empty() {
-        draw_ring(at(358.0), 0.6, canvas);
-        write(at(374.0), "four edges meet", canvas);
+        draw_ring(at(next), 0.6, canvas);
+        write(at(next + 16.0), "four edges meet", canvas);
     }
 }
 
