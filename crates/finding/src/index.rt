@@ -5,6 +5,7 @@ use rows::Place;
 use rows::branch_at;
 use rows::has_tip;
 use rows::level_in;
+use steps::Found;
 use steps::Side;
 ghost use mathlib.Core.Path.{_≡_};
 ghost use Prim.Native.Nat.{ℕ, _≤_, _<_};
@@ -23,8 +24,8 @@ const CROWDED: u16 = 65_535;
 // Where the peak stands among the counts.
 const PEAK: usize = 1;
 
-// What a search gives where no row has the tip.
-pub const NOTHING: usize = 18_446_744_073_709_551_615;
+// What a search by numbers gives where no row has the tip.
+const NOTHING: usize = 18_446_744_073_709_551_615;
 
 // Tips of level 0 have slots of their own: most are of that level.
 fn upper(level: u32) -> usize
@@ -129,8 +130,8 @@ fn look_at(rows: &[i32], peak: usize, r: usize, level: u32, side: Side, tip: Pla
     NOTHING
 }
 
-// The first row below the peak with a tip, by its slot.
-pub fn find(
+// The first row below the peak with a tip, by its slot, as a number.
+fn seek(
     rows: &[i32],
     index: &[u16],
     counts: &[u64],
@@ -140,7 +141,7 @@ pub fn find(
     i: usize,
 ) -> usize
     requires { ⌜ (level < 2147483647) × (1 < length (now counts)) ⌝ }
-    ensures { λ f. ⌜ foundBy f ≡ told (ownerIn (now (index .entry)) (peakIn (now (counts .entry))) i) (now (rows .entry)) (peakIn (now (counts .entry))) level side tip ⌝ }
+    ensures { λ r. ⌜ foundBy r ≡ told (ownerIn (now (index .entry)) (peakIn (now (counts .entry))) i) (now (rows .entry)) (peakIn (now (counts .entry))) level side tip ⌝ }
 {
     let peak = counts[PEAK] as usize;
     let o = owner(index, peak, i);
@@ -151,6 +152,32 @@ pub fn find(
         return scan(rows, peak, level, side, tip);
     }
     look_at(rows, peak, (o as usize) - 1, level, side, tip)
+}
+
+// What such a number tells.
+fn found(r: usize) -> Found
+    ensures { λ f. ⌜ f ≡ foundBy r ⌝ }
+{
+    if r == NOTHING {
+        return Found::Nothing;
+    }
+    Found::At(r)
+}
+
+// The first row below the peak with a tip, by its slot, or nothing.
+pub fn find(
+    rows: &[i32],
+    index: &[u16],
+    counts: &[u64],
+    level: u32,
+    side: Side,
+    tip: Place,
+    i: usize,
+) -> Found
+    requires { ⌜ (level < 2147483647) × (1 < length (now counts)) ⌝ }
+    ensures { λ f. ⌜ f ≡ told (ownerIn (now (index .entry)) (peakIn (now (counts .entry))) i) (now (rows .entry)) (peakIn (now (counts .entry))) level side tip ⌝ }
+{
+    found(seek(rows, index, counts, level, side, tip, i))
 }
 
 // Whether a row is live and has a tip in a slot.

@@ -7,6 +7,7 @@ use finding::free;
 use finding::index;
 use rows::Place;
 use steps::End;
+use steps::Found;
 use steps::Side;
 ghost use mathlib.Core.Path.{_≡_};
 ghost use mathlib.Core.List.{List};
@@ -17,7 +18,7 @@ ghost use Rattle.steps.specs.SweepUp as up;
 ghost use Rattle.steps.specs.SweepUp.{levels};
 ghost use Rattle.rows.specs.Layout.{HasRow, lookRow, openedIn};
 ghost use Rattle.finding.specs.Free.{peakIn};
-ghost use Rattle.finding.specs.Index.{tipAt, foundBy};
+ghost use Rattle.finding.specs.Index.{tipAt};
 ghost use Rattle.sweep.specs.Slices.{lentRoom, state, edgeOf, progress, numberBelow};
 ghost use Rattle.sweep.specs.Treated.{Recorded, Opened, Chained, Attached, Met, Numbered, slices, Treated};
 
@@ -105,15 +106,14 @@ fn chain_row(
     ensures { λ r. ⌜ ((e : NamedEdge) → tip ≡ up.bottom side (edgeOf e) → number ≡ numberBelow side e → Chained (now (rows .entry)) (now (index .entry)) (now (counts .entry)) level side e r (now (rows .exit)) (now (index .exit)) (now (counts .exit))) ⌝ }
 {
     let slot = index::slot(level, side, number);
-    let r = index::find(rows, index, counts, level, side, tip, slot);
-    if r != index::NOTHING {
-        return r;
-    }
-    let free = free::lowest_free(rows, counts);
-    if free < rows::rows_in(rows) {
-        open_lowest(rows, index, counts, free, level, side, tip, number);
-    }
-    free
+    let Found::At(r) = index::find(rows, index, counts, level, side, tip, slot) else {
+        let free = free::lowest_free(rows, counts);
+        if free < rows::rows_in(rows) {
+            open_lowest(rows, index, counts, free, level, side, tip, number);
+        }
+        return free;
+    };
+    r
 }
 
 // Steps 2 and 3: the record, and the tip moved to the edge's top. The tip is not marked yet: it may be finished at once.
@@ -187,12 +187,12 @@ fn meeting(
     tip: Place,
     number: u16,
     apart: bool,
-) -> usize
+) -> Found
     requires { ⌜ 3 ≤ length (now counts) ⌝ }
-    ensures { λ f. ⌜ Met (now (rows .entry)) (now (index .entry)) (now (counts .entry)) 0 side tip number apart (foundBy f) ⌝ }
+    ensures { λ f. ⌜ Met (now (rows .entry)) (now (index .entry)) (now (counts .entry)) 0 side tip number apart f ⌝ }
 {
     if apart {
-        return index::NOTHING;
+        return Found::Nothing;
     }
     index::find(
         rows,
@@ -234,11 +234,10 @@ pub fn treat_first(
     let other = side.other();
     let top = e.bottom(other);
     let number = e.bottom_number(other);
-    let q = meeting(rows, index, counts, other, top, number, e.apart);
-    if q == index::NOTHING {
+    let Found::At(q) = meeting(rows, index, counts, other, top, number, e.apart) else {
         index::mark(rows, index, 0, side, number, r);
         return End::Done;
-    }
+    };
     rows::finish(rows, q, other);
     rows::finish(rows, r, side);
     pass_both(rows, journal, index, counts, 0, LEVELS, q, r)
@@ -334,11 +333,10 @@ fn raise(
     let top = e.bottom(other);
     let number = e.bottom_number(other);
     let slot = index::slot(level, other, number);
-    let q = index::find(rows, index, counts, level, other, top, slot);
-    if q == index::NOTHING {
+    let Found::At(q) = index::find(rows, index, counts, level, other, top, slot) else {
         index::mark(rows, index, level, side, number, row);
         return End::Done;
-    }
+    };
     rows::finish(rows, q, other);
     rows::finish(rows, row, side);
     pass_both(rows, journal, index, counts, level, left, q, row)

@@ -1,22 +1,11 @@
--- `finding::index::find` meets its contract. By what the slot tells.
+-- `finding::index::find` meets its contract.
+use mathlib.Core.Path.{_∙_}
 use borrow.Author.Needs.{needs}
-use Rattle.finding.specs.Index.{told}
-use Rattle.finding.proofs.Owners.{told-row}
 use Rattle.finding.proofs.index.find.Statement.{statement}
 use Rattle.finding.proofs.index.find.Tie as tie
 
 returns : tie.Need-returns
-unfolding told
-returns c = rw (← c .before .owner .ensures, c .if1 .taken)
-
-returns-2 : tie.Need-returns-2
-unfolding told
-returns-2 c = rw (← c .before .before .before .owner .ensures, c .before .if2 .taken) (c .scan .ensures)
-
-returns-3 : tie.Need-returns-3
-returns-3 c =
-    let o = c .before .before .before .owner in
-    rw (← o .ensures, told-row _ (o .result) _ _ _ _ (c .before .before .if1 .left) (c .before .if2 .left)) (c .look-at .ensures)
+returns c = c .found .ensures ∙ c .before .seek .ensures
 
 pub find-spec : {M : Type 1} → statement M
-find-spec = tie.close (tie.spec (search needs) (search needs) returns (search needs) returns-2 (search needs) (search needs) (search needs) returns-3)
+find-spec = tie.close (tie.spec (search needs) (search needs) returns)

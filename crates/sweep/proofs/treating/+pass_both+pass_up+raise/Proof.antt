@@ -1,13 +1,12 @@
 -- The three functions that pass rows up, which call each other in a round, meet their contracts: each way out by a law of Ways or Outcomes. The measure falls with the levels left, and
 -- along the round within a level.
 use Prim.Native.Nat.{ℕ, _+_, _-_, _*_, _<_}
-use mathlib.Core.Path.{sym, ap, _∙_}
+use mathlib.Core.Path.{sym, _∙_}
 use native.Mathlib.Omega.{arith}
 use borrow.Author.Needs.{needs}
 use borrow.Fn.Kinds.{In}
 use borrow.Fn.PlainCycle.{Measures, is, falls, and}
 use Rattle.laws.proofs.Tests.{not-true, not-false}
-use Rattle.finding.specs.Index.{foundBy}
 use Rattle.rows.proofs.Searching.{tip-has-row}
 use Rattle.finding.proofs.Indexing.{told-at}
 use Rattle.sweep.proofs.Outcomes.{closed, none-left, no-row, stopped, unmet, met-both, met-found, from-raised, raised-not-apart}
@@ -29,7 +28,6 @@ use Rattle.finding.proofs.index.find.Reads as find-reads
 use Rattle.finding.proofs.index.mark.Reads as mark-reads
 use Rattle.finding.proofs.index.slot.Reads as slot-reads
 use Rattle.rows.proofs.rows_in.Reads as rows-in-reads
-use Rattle.finding.proofs.Owners.{found-row}
 use Rattle.sheet.proofs.Point.same.Reads as same-reads
 use Rattle.steps.proofs.Side.other.Reads as other-reads
 use Rattle.sweep.proofs.NamedEdge.bottom.Reads as bottom-reads
@@ -249,9 +247,9 @@ raise-returns-4 t c =
 
 raise-returns-5 : (t : ℕ) → raise-lts.Need-returns-5 (raise-calls t) (raise-at t) raise.Post
 raise-returns-5 t c =
-    let c56 = c .before .before in
-    let c53 = c56 .before .before .before in
-    let c52 = c53 .before in
+    let c57 = c .before .before in
+    let c54 = c57 .before .before .before in
+    let c52 = c54 .before .before in
     let c48 = c52 .before .before .before .before in
     let c47 = c48 .before in
     let c46 = c47 .before in
@@ -277,15 +275,15 @@ raise-returns-5 t c =
     (unmet (c7 .free-row .last .0) (g .journal .now) (g .index .now) (c10 .give-back .last .0) (g .above - 1) (g .under + 1) (c5 .as-edge .result) (c17 .side .result) (c23 .chain-row .result) (sym (c14 .same .ensures) ∙ c15 .if1 .left) (omega (arith, c16 .if2 .left)) (c17 .side .ensures) (c23 .chain-row .ensures (c5 .as-edge .result) (c18 .bottom .ensures) (c22 .bottom-number .ensures))
     (omega (arith, c31 .if3 .left, c30 .rows-in .ensures, c23 .chain-row .kept)) (c23 .chain-row .kept .0) (c23 .chain-row .kept .1 .0) (c36 .attach .ensures .0) (c36 .attach .ensures .1) (c36 .attach .kept .0) (c36 .attach .kept .1 .0) (c36 .attach .kept .1 .1 .0) (sym (c43 .is-done .ensures) ∙ not-false _ (c44 .if4 .left)) (c45 .other .ensures) (c46 .bottom2 .ensures) (c47 .bottom-number2 .ensures)
     (met-found _ _ _ _ _ _ (raised-not-apart _ _ (c5 .as-edge .result) (c5 .as-edge .ensures .0 .0)) (c48 .slot .ensures) (c52 .find .ensures))
-    (ap foundBy (c53 .if5 .taken)) (c56 .mark .ensures))
+    (c54 .enum-told .given .1) (c57 .mark .ensures))
 
 raise-returns-6 : (t : ℕ) → raise-lts.Need-returns-6 (raise-calls t) (raise-at t) raise.Post
 raise-returns-6 t c =
-    let c64 = c .before .before .before .before .before .before in
-    let c58 = c64 .before .before .before .before .before .before in
-    let c55 = c58 .before .before .before in
-    let c53 = c55 .before .before in
-    let c52 = c53 .before in
+    let c66 = c .before .before .before .before .before .before in
+    let c60 = c66 .before .before .before .before .before .before in
+    let c57 = c60 .before .before .before in
+    let c54 = c57 .before .before .before in
+    let c52 = c54 .before .before in
     let c48 = c52 .before .before .before .before in
     let c47 = c48 .before in
     let c46 = c47 .before in
@@ -311,7 +309,7 @@ raise-returns-6 t c =
     (met-both (c7 .free-row .last .0) (g .journal .now) (g .index .now) (c10 .give-back .last .0) (g .above - 1) (g .under + 1) (c5 .as-edge .result) (c17 .side .result) (c23 .chain-row .result) (sym (c14 .same .ensures) ∙ c15 .if1 .left) (omega (arith, c16 .if2 .left)) (c17 .side .ensures) (c23 .chain-row .ensures (c5 .as-edge .result) (c18 .bottom .ensures) (c22 .bottom-number .ensures))
     (omega (arith, c31 .if3 .left, c30 .rows-in .ensures, c23 .chain-row .kept)) (c23 .chain-row .kept .0) (c23 .chain-row .kept .1 .0) (c36 .attach .ensures .0) (c36 .attach .ensures .1) (c36 .attach .kept .0) (c36 .attach .kept .1 .0) (c36 .attach .kept .1 .1 .0) (sym (c43 .is-done .ensures) ∙ not-false _ (c44 .if4 .left)) (c45 .other .ensures) (c46 .bottom2 .ensures) (c47 .bottom-number2 .ensures)
     (met-found _ _ _ _ _ _ (raised-not-apart _ _ (c5 .as-edge .result) (c5 .as-edge .ensures .0 .0)) (c48 .slot .ensures) (c52 .find .ensures))
-    (found-row _ (c53 .if5 .left)) (c55 .finish .ensures) (c58 .finish2 .ensures) (c64 .pass-both .ensures))
+    (c54 .q .given .1) (c57 .finish .ensures) (c60 .finish2 .ensures) (c66 .pass-both .ensures))
 
 raise-chain-row-requires : (t : ℕ) → raise-lts.Need-chain-row-requires (raise-calls t) (raise-at t) raise.Post
 raise-chain-row-requires t c κs =
@@ -338,24 +336,24 @@ raise-find-requires t c κs =
 
 raise-finish-requires : (t : ℕ) → raise-lts.Need-finish-requires (raise-calls t) (raise-at t) raise.Post
 raise-finish-requires t c κs =
-    let c53 = c .before in
-    let c52 = c53 .before in
-    tip-has-row _ _ _ _ _ (told-at _ _ _ _ _ _ _ (sym (c52 .find .ensures) ∙ found-row _ (c53 .if5 .left)) .0)
+    let c54 = c .before .before in
+    let c52 = c54 .before .before in
+    tip-has-row _ _ _ _ _ (told-at _ _ _ _ _ _ _ (sym (c52 .find .ensures) ∙ c54 .q .given .1) .0)
 
 raise-finish-requires-2 : (t : ℕ) → raise-lts.Need-finish-requires-2 (raise-calls t) (raise-at t) raise.Post
 raise-finish-requires-2 t c κs =
-    let c55 = c .before .before in
-    let c36 = c55 .before .before .before .before .before .before .before .before .before .before .before .before .before .before .before .before .before .before .before in
+    let c57 = c .before .before in
+    let c36 = c57 .before .before .before .before .before .before .before .before .before .before .before .before .before .before .before .before .before .before .before .before .before in
     let c31 = c36 .before .before .before .before .before in
     let c30 = c31 .before in
-    omega (arith, c55 .finish .kept, c36 .attach .kept, c31 .if3 .left, c30 .rows-in .ensures)
+    omega (arith, c57 .finish .kept, c36 .attach .kept, c31 .if3 .left, c30 .rows-in .ensures)
 
 raise-pass-both-requires : (t : ℕ) → raise-lts.Need-pass-both-requires (raise-calls t) (raise-at t) raise.Post
 raise-pass-both-requires t c κs =
-    let c58 = c .before .before .before .before .before in
-    let c55 = c58 .before .before .before in
-    let c53 = c55 .before .before in
-    let c52 = c53 .before in
+    let c60 = c .before .before .before .before .before in
+    let c57 = c60 .before .before .before in
+    let c54 = c57 .before .before .before in
+    let c52 = c54 .before .before in
     let c36 = c52 .before .before .before .before .before .before .before .before .before .before .before .before .before .before .before .before in
     let c31 = c36 .before .before .before .before .before in
     let c30 = c31 .before in
@@ -363,11 +361,11 @@ raise-pass-both-requires t c κs =
     let c16 = c23 .before .before .before .before .before .before .before in
     let c10 = c16 .before .before .before .before .before .before in
     let c0 = c10 .before .before .before .before .before .before .before .before .before .before in
-    let hq = tip-has-row _ _ _ _ _ (told-at _ _ _ _ _ _ _ (sym (c52 .find .ensures) ∙ found-row _ (c53 .if5 .left)) .0) in (
+    let hq = tip-has-row _ _ _ _ _ (told-at _ _ _ _ _ _ _ (sym (c52 .find .ensures) ∙ c54 .q .given .1) .0) in (
       omega (arith, c0 .pre .0, c16 .if2 .left),
       (
-        omega (arith, hq, c55 .finish .kept, c58 .finish2 .kept),
-        omega (arith, c58 .finish2 .kept, c55 .finish .kept, c36 .attach .kept, c31 .if3 .left, c30 .rows-in .ensures),
+        omega (arith, hq, c57 .finish .kept, c60 .finish2 .kept),
+        omega (arith, c60 .finish2 .kept, c57 .finish .kept, c36 .attach .kept, c31 .if3 .left, c30 .rows-in .ensures),
         omega (arith, c0 .pre .1 .1, c16 .if2 .left),
         omega (arith, c16 .if2 .left),
         omega (arith, c0 .pre .1 .3, c10 .give-back .kept, c23 .chain-row .kept, c36 .attach .kept),
@@ -386,24 +384,24 @@ raise-stopped-by t c =
 -- the calls that keep the lengths
 abbrev raise-unmet-by : (t : ℕ) → raise-lts.After-slice-known9 (raise-calls t) (raise-at t) raise.Post → raise-lts.After-free-row (raise-calls t) (raise-at t) raise.Post × raise-lts.After-give-back (raise-calls t) (raise-at t) raise.Post × raise-lts.After-chain-row (raise-calls t) (raise-at t) raise.Post × raise-lts.After-attach (raise-calls t) (raise-at t) raise.Post × raise-lts.After-mark (raise-calls t) (raise-at t) raise.Post
 raise-unmet-by t c =
-    let c56 = c .before .before in
-    let c36 = c56 .before .before .before .before .before .before .before .before .before .before .before .before .before .before .before .before .before .before .before .before in
+    let c57 = c .before .before in
+    let c36 = c57 .before .before .before .before .before .before .before .before .before .before .before .before .before .before .before .before .before .before .before .before .before in
     let c23 = c36 .before .before .before .before .before .before .before .before .before .before .before .before .before in
     let c10 = c23 .before .before .before .before .before .before .before .before .before .before .before .before .before in
     let c7 = c10 .before .before .before in
-    (c7, c10, c23, c36, c56)
+    (c7, c10, c23, c36, c57)
 
 -- the calls that keep the lengths
 abbrev raise-met-by : (t : ℕ) → raise-lts.After-slice-known11 (raise-calls t) (raise-at t) raise.Post → raise-lts.After-pass-both (raise-calls t) (raise-at t) raise.Post × raise-lts.After-finish2 (raise-calls t) (raise-at t) raise.Post × raise-lts.After-finish (raise-calls t) (raise-at t) raise.Post × raise-lts.After-attach (raise-calls t) (raise-at t) raise.Post × raise-lts.After-chain-row (raise-calls t) (raise-at t) raise.Post × raise-lts.After-give-back (raise-calls t) (raise-at t) raise.Post × raise-lts.After-free-row (raise-calls t) (raise-at t) raise.Post
 raise-met-by t c =
-    let c64 = c .before .before .before .before .before .before in
-    let c58 = c64 .before .before .before .before .before .before in
-    let c55 = c58 .before .before .before in
-    let c36 = c55 .before .before .before .before .before .before .before .before .before .before .before .before .before .before .before .before .before .before .before in
+    let c66 = c .before .before .before .before .before .before in
+    let c60 = c66 .before .before .before .before .before .before in
+    let c57 = c60 .before .before .before in
+    let c36 = c57 .before .before .before .before .before .before .before .before .before .before .before .before .before .before .before .before .before .before .before .before .before in
     let c23 = c36 .before .before .before .before .before .before .before .before .before .before .before .before .before in
     let c10 = c23 .before .before .before .before .before .before .before .before .before .before .before .before .before in
     let c7 = c10 .before .before .before in
-    (c64, c58, c55, c36, c23, c10, c7)
+    (c66, c60, c57, c36, c23, c10, c7)
 
 pub +pass-both+pass-up+raise-spec : {M : Type 1} → statement M
 +pass-both+pass-up+raise-spec =
@@ -427,7 +425,7 @@ pub +pass-both+pass-up+raise-spec : {M : Type 1} → statement M
     (raise-attach-requires t)
     (search needs) (λ c. omega (arith, raise-stopped-by t c)) (λ c. omega (arith, raise-stopped-by t c)) (λ c. omega (arith, raise-stopped-by t c)) (λ c. omega (arith, raise-stopped-by t c)) (raise-returns-4 t)
     (search needs) (search needs) (search needs) (search needs) (raise-find-requires t)
-    (search needs) (λ c. omega (arith, raise-unmet-by t c)) (λ c. omega (arith, raise-unmet-by t c)) (λ c. omega (arith, raise-unmet-by t c)) (λ c. omega (arith, raise-unmet-by t c)) (raise-returns-5 t)
+    (search needs) (search needs) (search needs) (λ c. omega (arith, raise-unmet-by t c)) (λ c. omega (arith, raise-unmet-by t c)) (λ c. omega (arith, raise-unmet-by t c)) (λ c. omega (arith, raise-unmet-by t c)) (raise-returns-5 t)
     (raise-finish-requires t)
     (raise-finish-requires-2 t)
     (raise-pass-both-requires t)
