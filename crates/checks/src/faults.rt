@@ -1,5 +1,4 @@
 // 5, 16, 6 and 7: what is wrong with one edge, or with its top after the top of the edge before.
-use ends::ranks;
 use sheet::Check;
 use sheet::Edge;
 use sheet::Refusal;
@@ -74,12 +73,12 @@ fn first_fault(edges: &[i32], n: usize) -> usize
         if past_limits(edge) {
             return e;
         }
-        let tail = ranks::of_tail(edge);
-        let head = ranks::of_head(edge);
+        let tail = edge.tail_rank();
+        let head = edge.head_rank();
         if tail == head {
             return e;
         }
-        let top = ranks::higher(tail, head);
+        let top = edge.top_rank();
         if top < last {
             return e;
         }

@@ -1,7 +1,7 @@
 // Points and edges with what belongs to them: the order, sameness, top, bottom, up or down, the range, the rank.
 // Then the answers of the two calls. What each means is defined in specs/, in the paper's words.
 ghost use mathlib.Core.Path.{_≡_};
-ghost use Prim.Native.Nat.{_+_, _*_, _<_};
+ghost use Prim.Native.Nat.{_+_, _*_, _<_, min, max};
 ghost use lib.ListN.{length};
 ghost use Rattle.sheet.specs.Points.{isBelow, isSame, within, inRange, isFilm, isUp, topOf, bottomOf};
 ghost use Rattle.sheet.specs.Rank.{shift, rank};
@@ -146,6 +146,48 @@ impl Edge {
         let head = self.head;
         if tail.below(head) { tail } else { head }
     }
+
+    pub fn tail_rank(self) -> u64
+        ensures { λ r. ⌜ r ≡ rank (self .tail) ⌝ }
+    {
+        let tail = self.tail;
+        tail.rank()
+    }
+
+    pub fn head_rank(self) -> u64
+        ensures { λ r. ⌜ r ≡ rank (self .head) ⌝ }
+    {
+        let head = self.head;
+        head.rank()
+    }
+
+    // The rank of the higher end, where both are in the range: two numbers are chosen between without a branch.
+    pub fn top_rank(self) -> u64
+        ensures { λ r. ⌜ r ≡ max (rank (self .tail)) (rank (self .head)) ⌝ }
+    {
+        higher(self.tail_rank(), self.head_rank())
+    }
+
+    // The rank of the lower end, likewise.
+    pub fn bottom_rank(self) -> u64
+        ensures { λ r. ⌜ r ≡ min (rank (self .tail)) (rank (self .head)) ⌝ }
+    {
+        lower(self.tail_rank(), self.head_rank())
+    }
+}
+
+// The higher of two ranks.
+fn higher(a: u64, b: u64) -> u64
+    ensures { λ r. ⌜ r ≡ max a b ⌝ }
+{
+    if a < b { b } else { a }
+}
+
+// The lower of two ranks.
+fn lower(a: u64, b: u64) -> u64
+    ensures { λ r. ⌜ r ≡ min a b ⌝ }
+{
+    if a < b { a } else { b }
 }
 
 // Why the numbering refuses a call. Each has its number and its place in the paper; the place is an edge's where one is held.

@@ -7,6 +7,7 @@ use lib.Dec.{eqb, ltb}
 use borrow.Author.Tests.{lt-ltb, le-ltb, eq-eqb, ne-eqb}
 use borrow.Author.Needs.{needs}
 use Rattle.laws.proofs.Searching.{NoneBelow, none-yet, none-more, found-first, found-none}
+use Rattle.sheet.specs.Rank.{rank}
 use Rattle.sheet.specs.Answers.{pastRange, filmPastRange, edgeFault}
 use Rattle.checks.specs.Faults.{topBefore}
 use Rattle.checks.proofs.EdgeFaults.{limits-told, past-fault, fault-by-ranks, top-next}
@@ -25,11 +26,15 @@ within c = let l = c .before .before .before .before in
     limits-told (l .before .args .edges .now) (l .loop .e) (c .before .before .at .ensures) (c .before .past-limits .ensures) ∙ c .if1 .left
 
 -- whether it has a fault is told by the ranks
-by-ranks : (c : tie.After-of-head Inv-loop μ-loop) {top : ℕ} → top ≡ max (c .before .of-tail .result) (c .of-head .result) → let l = c .before .before .before .before .before .before in edgeFault (l .before .args .edges .now) (l .loop .e) ≡ (eqb (c .before .of-tail .result) (c .of-head .result) || ltb top (l .loop .last))
+by-ranks : (c : tie.After-head-rank Inv-loop μ-loop) {top : ℕ} → top ≡ max (c .before .tail-rank .result) (c .head-rank .result) → let l = c .before .before .before .before .before .before in edgeFault (l .before .args .edges .now) (l .loop .e) ≡ (eqb (c .before .tail-rank .result) (c .head-rank .result) || ltb top (l .loop .last))
 by-ranks c higher =
     let a = c .before .before .before .before in
     let l = a .before .before in
-    fault-by-ranks (l .before .args .edges .now) (l .loop .e) (within (c .before .before)) (a .at .ensures) (c .before .of-tail .ensures) (c .of-head .ensures) higher (l .loop .inv .1) (l .loop .inv .2)
+    fault-by-ranks (l .before .args .edges .now) (l .loop .e) (within (c .before .before)) (a .at .ensures) (c .before .tail-rank .ensures) (c .head-rank .ensures) higher (l .loop .inv .1) (l .loop .inv .2)
+
+-- and the top's is the higher one
+higher-is : (c : tie.After-head-rank Inv-loop μ-loop) {top : ℕ} → top ≡ max (rank (c .before .before .before .before .at .result .tail)) (rank (c .before .before .before .before .at .result .head)) → top ≡ max (c .before .tail-rank .result) (c .head-rank .result)
+higher-is c e = rw (c .before .tail-rank .ensures, c .head-rank .ensures) e
 
 loop-holds : tie.Need-loop-holds Inv-loop μ-loop
 unfolding topBefore
@@ -47,7 +52,7 @@ returns-3 : tie.Need-returns-3 Inv-loop μ-loop
 returns-3 c =
     let h = c .before .before .before in
     let l = h .before .before .before .before .before .before in
-    found-first _ (l .loop .inv .2) (search needs) (by-ranks h (c .before .higher .ensures) ∙ rw (ne-eqb _ _ (c .before .before .if2 .left), lt-ltb _ _ (c .if3 .taken)))
+    found-first _ (l .loop .inv .2) (search needs) (by-ranks h (higher-is h (c .before .top-rank .ensures)) ∙ rw (ne-eqb _ _ (c .before .before .if2 .left), lt-ltb _ _ (c .if3 .taken)))
 
 loop-again : tie.Need-loop-again Inv-loop μ-loop
 loop-again c =
@@ -55,8 +60,8 @@ loop-again c =
     let a = h .before .before .before .before in
     let l = a .before .before in (
       search needs,
-      top-next (l .before .args .edges .now) (l .loop .e) (within (h .before .before)) (a .at .ensures) (h .before .of-tail .ensures) (h .of-head .ensures) (c .before .higher .ensures),
-      none-more _ (l .loop .inv .2) (by-ranks h (c .before .higher .ensures) ∙ rw (ne-eqb _ _ (c .before .before .if2 .left), le-ltb _ _ (c .if3 .left))),
+      top-next (l .before .args .edges .now) (l .loop .e) (within (h .before .before)) (a .at .ensures) (h .before .tail-rank .ensures) (h .head-rank .ensures) (higher-is h (c .before .top-rank .ensures)),
+      none-more _ (l .loop .inv .2) (by-ranks h (higher-is h (c .before .top-rank .ensures)) ∙ rw (ne-eqb _ _ (c .before .before .if2 .left), le-ltb _ _ (c .if3 .left))),
     )
 
 returns-4 : tie.Need-returns-4 Inv-loop μ-loop
