@@ -1,13 +1,14 @@
 /*
- * outline.h: the outline engine for C and C++, x86-64.
+ * outline.h: the outline engine for C and C++, x86-64 and Arm Linux.
  *
  * The engine takes the directed edges of a drawing in sweep order, gives each
  * edge the number of the closed outline that it belongs to and its place round
  * that outline, and lists the edges in the order in which they are cut. From
- * these it gives the instructions for two kinds of cutter. It is proved; it
- * comes as libdesk.a, which `rt staticlib desk` writes to target/staticlib.
+ * these it gives the instructions for two kinds of cutter. It is proved, for
+ * x86-64; for Arm the same code is compiled once more, and tested. It comes as
+ * libdesk.a, in the repository's dist/ with this header:
  *
- *     cc program.c -I include target/staticlib/libdesk.a
+ *     cc program.c -I dist dist/$(uname -m)/libdesk.a
  *
  * The functions work only in the memory that they are handed. They allocate
  * nothing, keep nothing between calls, call nothing back, and may be called

@@ -1,21 +1,48 @@
-//! Finds the engine's static library, or makes it, and links it. In order:
-//! the file that the variable OUTLINE_ARCHIVE names; the archive that
-//! `rt staticlib desk` has left in the repository; a run of that command.
+//! Finds the engine's static library for the target, or makes it, and links it.
+//! In order:
+//!
+//! 1. the file that the variable `OUTLINE_ARCHIVE` names, for any target;
+//! 2. what the command that makes it has left in the repository, where it is
+//!    newer than every source: `rt staticlib desk` for x86-64 Linux, and
+//!    `arm/build` for Arm Linux;
+//! 3. the one in `dist/`, where it was made from the sources as they are now;
+//! 4. a run of that command, which needs the Rattle toolchain.
+//!
 //! The library is copied beside what is built, under the name that the linker
 //! is given, so that the file may have any name and may go away afterwards.
 
 use std::path::{Path, PathBuf};
 use std::process::{exit, Command};
+use std::time::SystemTime;
 use std::{env, fs};
 
 /// Where a caller says that the archive is.
 const VARIABLE: &str = "OUTLINE_ARCHIVE";
 
-/// Where the repository has it, seen from the repository's root.
-const PLACE: &str = "target/staticlib/libdesk.a";
-
 /// The name that the linker is given.
 const NAME: &str = "desk";
+
+/// What the archive is made from, seen from the repository's root.
+const SOURCES: [&str; 2] = ["crates.txt", "crates"];
+
+/// What makes the archive for a kind of machine, and where it leaves it.
+struct Maker {
+    program: &'static str,
+    words: [&'static str; 2],
+    made: &'static str,
+}
+
+const X86_64: Maker = Maker {
+    program: "rt",
+    words: ["staticlib", NAME],
+    made: "target/staticlib/libdesk.a",
+};
+
+const ARM: Maker = Maker {
+    program: "arm/build",
+    words: ["--archive", "target/arm"],
+    made: "target/arm/libdesk.a",
+};
 
 fn main() {
     println!("cargo:rerun-if-env-changed={}", VARIABLE);
@@ -29,22 +56,35 @@ fn main() {
     }
 }
 
-/// The archive to link. What `OUTLINE_ARCHIVE` names is taken for any target;
-/// what `rt` makes is for x86-64.
+/// The archive to link.
 fn archive() -> Result<PathBuf, String> {
     if let Some(named) = env::var_os(VARIABLE) {
         return existing(PathBuf::from(named));
     }
-    let target = variable("CARGO_CFG_TARGET_ARCH")?;
-    if target != "x86_64" {
-        return Err(wrong_target(&target));
-    }
+    let (kind, system) = (
+        variable("CARGO_CFG_TARGET_ARCH")?,
+        variable("CARGO_CFG_TARGET_OS")?,
+    );
+    let maker = match (kind.as_str(), system.as_str()) {
+        ("x86_64", "linux") => X86_64,
+        ("aarch64", "linux") => ARM,
+        _ => return Err(wrong_target(&variable("TARGET")?)),
+    };
     let root = root()?;
-    let archive = root.join(PLACE);
-    if !archive.is_file() {
-        make(&root)?;
+    let made = root.join(maker.made);
+    let ready = root.join("dist").join(kind).join("libdesk.a");
+    for source in SOURCES {
+        println!("cargo:rerun-if-changed={}", root.join(source).display());
     }
-    existing(archive)
+    let newer = |at: SystemTime| SOURCES.iter().all(|source| older(&root.join(source), at));
+    if written(&made).map_or(false, newer) {
+        return existing(made);
+    }
+    if ready.is_file() && dist_fits(&root) {
+        return existing(ready);
+    }
+    make(&root, &maker)?;
+    existing(made)
 }
 
 /// The repository's root, two folders above this crate.
@@ -56,22 +96,52 @@ fn root() -> Result<PathBuf, String> {
     }
 }
 
-/// Has `rt` prove the engine and write the archive.
-fn make(root: &Path) -> Result<(), String> {
-    let run = Command::new("rt")
-        .args(["staticlib", NAME])
+/// Whether `dist/` was made from the sources as they are now, as `./outline`
+/// tells. Where that script cannot run, it is taken as it was handed over.
+fn dist_fits(root: &Path) -> bool {
+    let run = Command::new(root.join("outline")).arg("--sources").output();
+    match (run, fs::read(root.join("dist/SOURCES"))) {
+        (Ok(now), Ok(then)) if now.status.success() => now.stdout == then,
+        (_, then) => then.is_ok(),
+    }
+}
+
+/// When a file was written last.
+fn written(file: &Path) -> Option<SystemTime> {
+    fs::metadata(file).and_then(|file| file.modified()).ok()
+}
+
+/// Whether a file, or everything in a folder, was written before this time.
+/// Edits that must fail are no part of what is built.
+fn older(path: &Path, than: SystemTime) -> bool {
+    match fs::read_dir(path) {
+        Ok(_) if path.ends_with("must-fail") => true,
+        Ok(entries) => entries.flatten().all(|entry| older(&entry.path(), than)),
+        Err(_) => written(path).map_or(false, |at| at < than),
+    }
+}
+
+/// Has the archive made from the sources, which are proved on the way.
+fn make(root: &Path, maker: &Maker) -> Result<(), String> {
+    let program = match maker.program.contains('/') {
+        true => root.join(maker.program),
+        false => PathBuf::from(maker.program),
+    };
+    let run = Command::new(program)
+        .args(maker.words)
         .current_dir(root)
         .output();
-    let output = run.map_err(|error| no_rt(root, &error.to_string()))?;
+    let command = format!("{} {}", maker.program, maker.words.join(" "));
+    let output = run.map_err(|error| no_maker(root, maker, &command, &error.to_string()))?;
     if output.status.success() {
         return Ok(());
     }
     let said = [output.stdout, output.stderr].concat();
     let said = String::from_utf8_lossy(&said).into_owned();
     Err(format!(
-        "there is no {}, and `rt staticlib {}` did not make it; it said:\n\n{}",
-        root.join(PLACE).display(),
-        NAME,
+        "there is no {}, what dist/ has was made from other sources, and `{}` did not make it; it said:\n\n{}",
+        root.join(maker.made).display(),
+        command,
         said.trim_end()
     ))
 }
@@ -93,7 +163,7 @@ fn link(archive: &Path) -> Result<(), String> {
 fn existing(archive: PathBuf) -> Result<PathBuf, String> {
     let missing = |error| {
         let archive = archive.display();
-        format!("there is no engine's static library at {}: {}. Name it with {}, by its whole path, or unset that variable and run `rt staticlib {}` in the repository's root", archive, error, VARIABLE, NAME)
+        format!("there is no engine's static library at {}: {}. Name it with {}, by its whole path, or unset that variable: dist/ has one", archive, error, VARIABLE)
     };
     archive.canonicalize().map_err(missing)
 }
@@ -102,14 +172,15 @@ fn variable(name: &str) -> Result<String, String> {
     env::var(name).map_err(|_| format!("cargo has not set {}", name))
 }
 
-fn no_rt(root: &Path, error: &str) -> String {
+fn no_maker(root: &Path, maker: &Maker, command: &str, error: &str) -> String {
     format!(
-        "the engine's static library is missing, and so is the command that makes it.\n\
-         \n  looked for  {}\n  tried       rt staticlib {} ({})\n\n\
+        "the engine's static library is missing, what dist/ has was made from other sources, and the command\n\
+         that makes it anew is missing too.\n\
+         \n  looked for  {}\n  tried       {} ({})\n\n\
          Either install the Rattle toolchain, so that `rt` is on the PATH, and build again;\n\
          or take libdesk.a from a machine that has it, and set {} to its path.",
-        root.join(PLACE).display(),
-        NAME,
+        root.join(maker.made).display(),
+        command,
         error,
         VARIABLE
     )
@@ -117,10 +188,8 @@ fn no_rt(root: &Path, error: &str) -> String {
 
 fn wrong_target(target: &str) -> String {
     format!(
-        "the engine's static library is for x86-64 only, and this build is for {}.\n\
-         Build for the target x86_64-unknown-linux-gnu: .ci/cargo in the repository does so on every machine,\n\
-         and runs what it has built under an emulator where it must. An archive for this target, if you have one,\n\
-         is taken where {} names it.",
+        "the engine's static library is for x86-64 and Arm Linux (x86_64 and aarch64), and this build is for {}.\n\
+         An archive for this target, if you have one, is taken where {} names it.",
         target, VARIABLE
     )
 }

@@ -97,7 +97,7 @@ fn machine() -> String {
     let engine = if ARCH == "x86_64" {
         "The engine is its static library."
     } else {
-        "The engine is not its static library, which is for x86-64 only, but the same code compiled for this machine."
+        "The engine is not the archive that is proved, which is for x86-64, but the same code compiled for this machine."
     };
     format!("Built for {} {}, {}. {}", ARCH, OS, run, engine)
 }

@@ -4,17 +4,16 @@
 //! archive exports nothing else.
 
 use std::collections::BTreeSet;
-use std::fs;
-use std::io::Read;
 use std::path::{Path, PathBuf};
 use std::process::Command;
 
-use tests::process::start;
+use tests::c::{compiled, of_repository, printed, Kind};
+use tests::numbers;
 use witness::call::{Call, CutCall, TurnCall};
 use witness::checks::IN_ORDER;
 use witness::generate::{any, any_cutting, damaged, spoil_cutting, Random, Seed};
 use witness::instructions::CUT_IN_ORDER;
-use witness::{Answer, Instruction, Machine, Refusal, TurnAnswer};
+use witness::{Answer, Machine, Refusal, TurnAnswer};
 
 #[repr(C)]
 #[derive(Clone, Copy, PartialEq, Eq, Debug)]
@@ -164,14 +163,7 @@ fn cut(call: &CutCall) -> [u32; 5] {
 
 /// What the fields must be for an answer of the witness.
 fn fields(answer: Answer) -> Sheet {
-    let (refusal, place, polygons, peak, records) = match answer {
-        Answer::Accepted {
-            polygons,
-            peak,
-            records,
-        } => (0, 0, polygons, peak, records),
-        Answer::Refused(Refusal { number, place }) => (number, place, 0, 0, 0),
-    };
+    let [refusal, place, polygons, peak, records] = numbers::of_sheet(answer);
     Sheet {
         refusal,
         place,
@@ -182,23 +174,11 @@ fn fields(answer: Answer) -> Sheet {
 }
 
 fn turn_fields(answer: TurnAnswer) -> Turned {
-    let (refusal, place, polygons) = match answer {
-        TurnAnswer::Accepted { polygons } => (0, 0, polygons),
-        TurnAnswer::Refused(Refusal { number, place }) => (number, place, 0),
-    };
+    let [refusal, place, polygons] = numbers::of_turned(answer);
     Turned {
         refusal,
         place,
         polygons,
-    }
-}
-
-fn cut_fields(answer: Result<Instruction, Refusal>) -> [u32; 5] {
-    match answer {
-        Ok(Instruction::Travel([x, y])) => [0, 0, 0, x, y],
-        Ok(Instruction::Cut([x, y])) => [0, 0, 1, x, y],
-        Ok(Instruction::Lift) => [0, 0, 2, 0, 0],
-        Err(Refusal { number, place }) => [number, place, 0, 0, 0],
     }
 }
 
@@ -253,7 +233,7 @@ fn every_field_of_an_instruction() {
         });
         for call in [call.clone()].into_iter().chain(spoilt) {
             let fields = cut(&call);
-            assert_eq!(fields, cut_fields(call.answer()), "{:?}", call);
+            assert_eq!(fields, numbers::of_cut(call.answer()), "{:?}", call);
             met.insert((fields[0], fields[2]));
         }
     }
@@ -331,38 +311,21 @@ lift 0 0 lift 0 0
 1 1
 ";
 
-/// Compiles a C program with the header and the archive; gives the compiler's
-/// complaint, or nothing where there is no such compiler.
-fn compile(compiler: &str, source: &Path, program: &Path) -> Option<String> {
-    let include = Path::new(env!("CARGO_MANIFEST_DIR")).join("../../include");
-    let output = Command::new(compiler)
-        .args(["-std=c99", "-pedantic", "-Wall", "-Wextra", "-Werror", "-I"])
-        .arg(include)
-        .arg(source)
-        .arg(env!("ENGINE_ARCHIVE"))
-        .arg("-o")
-        .arg(program)
-        .output()
-        .ok()?;
-    Some(String::from_utf8_lossy(&output.stderr).into_owned())
-}
-
-/// What a C program with the header prints, compiled without a complaint.
+/// What a C program with the header prints, for both kinds of machine, compiled
+/// without a complaint and linked with the archive of the tests, or for Arm with
+/// the one in `dist/`.
 fn printed_by(name: &str, program: &str) -> String {
     let folder = PathBuf::from(env!("CARGO_TARGET_TMPDIR"));
-    let (source, compiled) = (folder.join(format!("{}.c", name)), folder.join(name));
-    fs::write(&source, program).unwrap();
-    let own = format!("{}-linux-gnu-gcc", std::env::consts::ARCH);
-    let complaint = [own.as_str(), "gcc", "cc"]
-        .iter()
-        .find_map(|compiler| compile(compiler, &source, &compiled));
-    assert_eq!(complaint.expect("a C compiler"), "");
-    let mut child = start(&compiled);
-    let mut printed = String::new();
-    let mut output = child.stdout.take().unwrap();
-    output.read_to_string(&mut printed).unwrap();
-    assert!(child.wait().unwrap().success());
-    printed
+    let archives = [
+        (Kind::Own, PathBuf::from(env!("ENGINE_ARCHIVE"))),
+        (Kind::Arm, of_repository("dist/aarch64/libdesk.a")),
+    ];
+    let [own, arm] = archives.map(|(kind, archive)| {
+        let program = compiled(kind, &folder, name, program, &archive);
+        String::from_utf8(printed(kind, &program, Vec::new())).unwrap()
+    });
+    assert_eq!(own, arm);
+    own
 }
 
 #[test]
@@ -382,9 +345,10 @@ fn the_c_program_of_the_readme() {
 
 /// The names that an archive exports, as the linker sees them; nothing where
 /// there is no such tool.
-fn exported(tool: &str) -> Option<BTreeSet<String>> {
+fn exported(tool: &str, archive: &Path) -> Option<BTreeSet<String>> {
     let output = Command::new(tool)
-        .args(["--extern-only", "--defined-only", env!("ENGINE_ARCHIVE")])
+        .args(["--extern-only", "--defined-only"])
+        .arg(archive)
         .output()
         .ok()?;
     assert!(output.status.success(), "{:?}", output);
@@ -398,8 +362,11 @@ fn exported(tool: &str) -> Option<BTreeSet<String>> {
 /// what it calls is there no more.
 #[test]
 fn nothing_else_is_exported() {
-    let own = format!("{}-linux-gnu-nm", std::env::consts::ARCH);
-    let names = [own.as_str(), "nm"].iter().find_map(|tool| exported(tool));
+    let archives = [
+        PathBuf::from(env!("ENGINE_ARCHIVE")),
+        of_repository("dist/x86_64/libdesk.a"),
+        of_repository("dist/aarch64/libdesk.a"),
+    ];
     let expected = [
         "outline_assemble",
         "outline_flatbed",
@@ -407,5 +374,10 @@ fn nothing_else_is_exported() {
         "outline_turns",
     ];
     let expected = expected.map(str::to_string);
-    assert_eq!(names.expect("nm"), BTreeSet::from(expected));
+    let own = format!("{}-linux-gnu-nm", std::env::consts::ARCH);
+    for archive in archives {
+        let tools = [own.as_str(), "nm"];
+        let names = tools.iter().find_map(|tool| exported(tool, &archive));
+        assert_eq!(names.expect("nm"), BTreeSet::from(expected.clone()));
+    }
 }

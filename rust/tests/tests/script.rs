@@ -1,5 +1,6 @@
 //! The script `./outline`, used as a person would: what it prints where, the
-//! status that it ends with, and when it builds the program.
+//! status that it ends with, when the program in `dist/` answers, and when it
+//! builds one.
 //!
 //! All but the last test run a copy of the script in a house of their own, a
 //! small repository in which `rt` is a stand-in that counts its calls. The
@@ -203,10 +204,20 @@ fn help_and_bad_usage() {
     for line in ["./outline -h", "./outline --help"] {
         let ran = house.run(line);
         assert_eq!((ran.errors.as_str(), ran.status), ("", 0));
-        assert!(ran.output.starts_with("usage: ./outline [FILE]\n"));
+        assert!(ran
+            .output
+            .starts_with("usage: ./outline [--prove] [FILE]\n"));
     }
-    for line in ["./outline a b", "./outline ''", "./outline -h a"] {
-        fails(&house, line, 2, "usage: ./outline [FILE]\n");
+    let bad = [
+        "./outline a b",
+        "./outline ''",
+        "./outline -h a",
+        "./outline --prove a b",
+        "./outline --prove ''",
+        "./outline --sources a",
+    ];
+    for line in bad {
+        fails(&house, line, 2, "usage: ./outline [--prove] [FILE]\n");
     }
 }
 
@@ -716,16 +727,120 @@ fn a_build_that_fails() {
     assert_eq!(house.calls(), 4);
 }
 
+/// Leaves every folder that has an rt out of the path.
+const WITHOUT_RT: &str = "PATH=$(printf '%s' \"$PATH\" | tr : '\\n' | while read -r d; do [ -x \"$d/rt\" ] || printf '%s:' \"$d\"; done)";
+
 #[test]
 fn no_toolchain() {
     let house = House::built("no-toolchain", "");
     house.write("sheet.txt", TRIANGLE);
     house.run("mv tools/rt tools/away");
-    let without = "PATH=$(printf '%s' \"$PATH\" | tr : '\\n' | while read -r d; do [ -x \"$d/rt\" ] || printf '%s:' \"$d\"; done)";
-    let run = format!("{without}; ./outline sheet.txt");
+    let run = format!("{WITHOUT_RT}; ./outline sheet.txt");
     assert_eq!(house.run(&run).output, NUMBERED);
     house.run("echo x >>crates/laws/src/lib.rt");
     fails(&house, &run, 4, "the program is missing, or older than its sources, and building it needs the Rattle toolchain (rt)");
+}
+
+/// A house with the program in `dist/` for this kind of machine, made from the
+/// sources of the house and not built. It is a stand-in, so that one that is built
+/// can be told from it.
+fn supplied(name: &str) -> House {
+    let house = House::unbuilt(name, "");
+    house.write("sheet.txt", TRIANGLE);
+    let supply = r#"
+        set -e
+        mkdir -p dist/$(uname -m)
+        printf '#!/bin/sh\necho refused 9 0\n' >dist/$(uname -m)/outline
+        chmod +x dist/$(uname -m)/outline
+        ./outline --sources >dist/SOURCES
+        cd dist && sha256sum SOURCES */outline >SHA256SUMS
+    "#;
+    let ran = house.run(supply);
+    assert_eq!(ran.status, 0, "{}", ran.errors);
+    house
+}
+
+/// What the stand-in in `dist/` prints.
+const READY: &str = "refused 9 0\n";
+
+#[test]
+fn ready_at_once_from_dist() {
+    let house = supplied("ready");
+    for line in ["./outline sheet.txt", "./outline <sheet.txt"] {
+        let ran = house.run(line);
+        assert_eq!((ran.output.as_str(), ran.status), (READY, 1));
+        assert!(!ran.errors.contains("dist/"), "{}", ran.errors);
+    }
+    // What changes nothing of the program's changes nothing here.
+    let edit = "echo more >docs/MORE.md; echo more >crates/laws/must-fail/more.edit; touch crates.txt; ./outline sheet.txt";
+    assert_eq!(house.run(edit).output, READY);
+    assert_eq!(house.calls(), 0);
+}
+
+#[test]
+fn proved_and_built_where_that_is_asked_for() {
+    let house = supplied("prove");
+    let first = house.run("./outline --prove sheet.txt");
+    assert_eq!((first.output.as_str(), first.status), (NUMBERED, 0));
+    assert_eq!(first.errors, format!("{FIRST}{PROGRESS}"));
+    for line in [
+        "./outline --prove sheet.txt",
+        "./outline --prove <sheet.txt",
+    ] {
+        let next = house.run(line);
+        assert_eq!((next.output.as_str(), next.errors.as_str()), (NUMBERED, ""));
+    }
+    assert_eq!(house.calls(), 1);
+    assert_eq!(house.run("./outline sheet.txt").output, READY);
+}
+
+#[test]
+fn proved_and_built_where_dist_is_of_other_sources() {
+    let house = supplied("other-sources");
+    let kind = house.run("uname -m").output.trim_end().to_string();
+    let other = format!("outline: dist/{kind}/outline is not run: the sources are not those that it was made from\n");
+    let ran = house.run("echo '// more' >>crates/laws/src/lib.rt; ./outline sheet.txt");
+    assert_eq!((ran.output.as_str(), ran.status), (NUMBERED, 0));
+    assert_eq!(ran.errors, format!("{other}{FIRST}{PROGRESS}"));
+    let next = house.run("./outline sheet.txt");
+    assert_eq!((next.output.as_str(), next.errors.as_str()), (NUMBERED, ""));
+    assert_eq!(house.calls(), 1);
+    let without = format!("{}; rm -r target; ./outline sheet.txt", WITHOUT_RT);
+    let ran = house.run(&without);
+    assert_eq!((ran.output.as_str(), ran.status), ("", 4));
+    let missing = "outline: the program is missing, or older than its sources, and building it needs the Rattle toolchain (rt)";
+    assert!(ran.errors.starts_with(&format!("{other}{missing}")));
+}
+
+/// A program that is not the one that was put there is not run.
+#[test]
+fn a_program_in_dist_that_is_not_whole() {
+    let house = supplied("not-its-checksum");
+    let kind = house.run("uname -m").output.trim_end().to_string();
+    let spoil = "cp -r dist kept; echo 'echo refused 9 0' >>dist/$(uname -m)/outline";
+    let ran = house.run(&format!("{spoil}; ./outline sheet.txt"));
+    let wrong = format!("outline: dist/{kind}/outline is not run: it does not fit its checksum in dist/SHA256SUMS\n");
+    assert_eq!((ran.output.as_str(), ran.status), (NUMBERED, 0));
+    assert_eq!(ran.errors, format!("{wrong}{FIRST}{PROGRESS}"));
+    let edits = [
+        ("rm dist/SHA256SUMS", wrong.clone()),
+        ("sed -i 's/^./x/' dist/SHA256SUMS", wrong),
+        (
+            "chmod -x dist/$(uname -m)/outline",
+            format!("outline: dist/{kind}/outline is not run: it is not marked as executable\n"),
+        ),
+        ("rm dist/$(uname -m)/outline", String::new()),
+    ];
+    for (edit, said) in edits {
+        let line = format!("rm -r dist; cp -r kept dist; {edit}; ./outline sheet.txt");
+        let ran = house.run(&line);
+        assert_eq!(
+            (ran.output.as_str(), ran.errors),
+            (NUMBERED, said),
+            "{edit}"
+        );
+    }
+    assert_eq!(house.calls(), 1);
 }
 
 /// Three that are started at once build the program once.
@@ -738,8 +853,8 @@ fn one_builds_and_the_others_wait() {
     assert_eq!(house.calls(), 1);
 }
 
-/// The command of the README. Left out where the tests are told of another
-/// program than the repository's own.
+/// The command of the README: it answers from `dist/`, and says nothing beside.
+/// Left out where the tests are told of another program than the repository's own.
 #[test]
 fn in_the_repository() {
     if std::env::var_os("OUTLINE_PROGRAM").is_some() {
@@ -750,5 +865,6 @@ fn in_the_repository() {
         let ran = bash(&root(), &format!("./outline samples/{sample}.txt"), &[]);
         let wanted = String::from_utf8(witness::outline(&sheet)).unwrap();
         assert_eq!((ran.output, ran.status), (wanted, 0), "{}", ran.errors);
+        assert_eq!(ran.errors, "");
     }
 }
