@@ -306,28 +306,23 @@ fn the_program_where_reading_or_writing_fails() {
     let numbered = child.wait_with_output().unwrap().stdout;
     assert_eq!(numbered, b"accepted 1 1 4\n2 1 0\n1 1 2\n0 1 1\n");
 
-    let runs: [(fn() -> File, fn() -> Stdio, &str); 2] = [
+    let full = File::options().write(true).open("/dev/full").unwrap();
+    let runs = [
         (
-            || File::open("/").unwrap(),
-            Stdio::piped,
+            File::open("/").unwrap(),
+            Stdio::piped(),
             "outline: standard input cannot be read\n",
         ),
         (
-            || File::open("/dev/null").unwrap(),
-            || {
-                File::options()
-                    .write(true)
-                    .open("/dev/full")
-                    .unwrap()
-                    .into()
-            },
+            File::open("/dev/null").unwrap(),
+            full.into(),
             "outline: standard output cannot be written\n",
         ),
     ];
     for (input, output, complaint) in runs {
         let child = arm_command(&arm)
-            .stdin(input())
-            .stdout(output())
+            .stdin(input)
+            .stdout(output)
             .stderr(Stdio::piped())
             .spawn()
             .unwrap();
