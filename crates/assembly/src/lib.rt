@@ -1,4 +1,6 @@
 // One call for a whole sheet: the edges are numbered, and the turn list is laid from their numbers (02, M-101).
+#![tactic(auto)]
+
 mod laying;
 
 ghost use Rattle.std.specs.Prelude.{length};

@@ -1,6 +1,8 @@
 // The checks before the sweeps: refusals 1 to 9, 16 and 17, in the papers' order. What the answer is, `checked` of the crate sheet says.
 // They come in three stages, each of which can be called alone: the lengths (1 to 4), the edges one by one (5, 16, 6 and 7), the places (8, 9 and 17).
 // A place is told by the words of its ends, which the crate ends puts in order.
+#![tactic(auto)]
+
 mod corners;
 pub mod faults;
 pub mod lengths;

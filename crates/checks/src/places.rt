@@ -22,7 +22,7 @@ const FEW: usize = 32;
 
 // The least edge of a kind that an earlier edge has at the same place, and the least with an end at a place where the arriving and the leaving edges
 // differ in number. Where there is none, the number of edges.
-#[derive(Drop)]
+#[derive(Clone, Copy)]
 pub struct AtFault {
     pub repeated: usize,
     pub uneven: usize,

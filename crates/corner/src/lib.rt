@@ -1,4 +1,6 @@
 // Four edges at a point: the way one turns from one direction to another, and whether two turns go the same way.
+#![tactic(auto)]
+
 ghost use Rattle.std.specs.Prelude.{◌≡◌, true, ◌-ℤ◌};
 ghost use Rattle.sheet.specs.Points.{in_range};
 ghost use Rattle.sheet.specs.Turning.{sign, towards, cross};

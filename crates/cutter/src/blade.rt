@@ -8,7 +8,7 @@ use crate::machines;
 use crate::machines::Machine;
 use sheet::Point;
 
-#[derive(Drop)]
+#[derive(Clone, Copy)]
 pub enum Instruction {
     Travel(f32, f32),
     Cut(f32, f32),
@@ -32,7 +32,7 @@ pub fn cut(machine: Machine, point: Point) -> Instruction
 }
 
 // Where the head stands, in millimetres, and whether the blade is down.
-#[derive(Drop)]
+#[derive(Clone, Copy)]
 pub struct Head {
     pub x: f32,
     pub y: f32,

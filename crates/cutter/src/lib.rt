@@ -1,5 +1,7 @@
 // Instructions for the flatbed and the roll feeder (02, M-102): of all that the two machines take for the outlines of a sheet, the k-th. What the whole list
 // is, specs/Programme.antt and specs/Outlines.antt say; the refusals and their order specs/Instructed.antt.
+#![tactic(auto)]
+
 pub mod blade;
 mod joining;
 pub mod machines;
@@ -17,7 +19,7 @@ use turning::Turning;
 
 // Why an instruction is refused: for the edges (1, 2, 5, 16, 6), for the numbers (11 to 14), for the turn list (24), for outlines that are not closed (25),
 // or since there are not so many (18).
-#[derive(Drop)]
+#[derive(Clone, Copy)]
 pub enum CutRefusal {
     Edges(Refusal),
     Numbers(TurnRefusal),
@@ -53,7 +55,7 @@ impl CutRefusal {
 }
 
 // What is answered for k.
-#[derive(Drop)]
+#[derive(Clone, Copy)]
 pub enum Step {
     Next(Instruction),
     Refused(CutRefusal),

@@ -5,14 +5,14 @@ ghost use Rattle.cutter.specs.Places.{millimetres_of, place_for};
 
 use sheet::Point;
 
-#[derive(Drop)]
+#[derive(Clone, Copy)]
 pub enum Machine {
     Flatbed,
     RollFeeder,
 }
 
 // Two numbers in the machine's own order.
-#[derive(Drop)]
+#[derive(Clone, Copy)]
 pub struct Place {
     pub first: f32,
     pub second: f32,

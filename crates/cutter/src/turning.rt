@@ -14,7 +14,7 @@ use sheet::{Edge, TurnAnswer, TurnRefusal};
 // What stands before the first pair: polygon 0, with a sequence number that none comes behind.
 const NO_SEQUENCE: u32 = 4_294_967_295;
 
-#[derive(Drop)]
+#[derive(Clone, Copy)]
 pub enum Turning {
     Passed,
     Refused(CutRefusal),

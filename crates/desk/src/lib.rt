@@ -1,4 +1,6 @@
 // The calls that people make, on plain slices: exported for Rust and C, by numbers alone. include/outline.h declares the same for C.
+#![tactic(auto)]
+
 ghost use Rattle.std.specs.Prelude.{◌≡◌, length};
 ghost use Rattle.numbering.specs.Outcome.{lent, left_as};
 ghost use Rattle.desk.specs.Exported.{sheet_from, turned_from, Exports, ReadTurns};
@@ -11,7 +13,7 @@ use sheet::{Answer, TurnAnswer};
 
 // What a sheet's call answers. Refusal 0: accepted, with place 0. Refused: the other three are 0.
 #[repr(C)]
-#[derive(Drop)]
+#[derive(Clone, Copy)]
 pub struct Sheet {
     pub refusal: u32,
     pub place: u32,
@@ -22,7 +24,7 @@ pub struct Sheet {
 
 // What the turn list answers, likewise.
 #[repr(C)]
-#[derive(Drop)]
+#[derive(Clone, Copy)]
 pub struct Turned {
     pub refusal: u32,
     pub place: u32,
@@ -32,7 +34,7 @@ pub struct Turned {
 // What an instruction's call answers. Refusal 0: an instruction, with place 0; what it is, 0 travel, 1 cut, 2 lift; and where to, in millimetres in the
 // machine's own order. A lift and a refusal have plus zero for both, and a refusal 0 for what.
 #[repr(C)]
-#[derive(Drop)]
+#[derive(Clone, Copy)]
 pub struct Cut {
     pub refusal: u32,
     pub place: u32,

@@ -1,5 +1,7 @@
 // Records in the lent journal. Only this crate knows how a record lies in its four numbers: specs/Layout.antt says it, and writing and reading here
 // are proved equal to what the steps do with a journal laid out so.
+#![tactic(auto)]
+
 ghost use Rattle.std.specs.Prelude.{◌≡◌, [], ◌∷◌, ◌++◌, ◌-◌, ◌*◌, ◌≤◌, ◌<◌, pos, length, take, replicate};
 ghost use Rattle.std.proofs.lemmas.List.Edits.{sets};
 ghost use Rattle.steps.specs.Rows.{in_row, closing};

@@ -1,4 +1,6 @@
 // The numbering: checks, sweep up, sweep down, answer sheet, on the five slices that a caller lends.
+#![tactic(auto)]
+
 ghost use Rattle.std.specs.Prelude.{◌≡◌, ◌*◌, ◌/◌, ◌≤◌, length};
 ghost use Rattle.numbering.specs.OnSlices.{fitted, sweeps, sweeps_on};
 ghost use Rattle.numbering.specs.Outcome.{lent, left_as};

@@ -1,5 +1,7 @@
 // The program: reads a sheet from standard input and prints its numbers, or why it is refused. What is printed is settled by crates/printing; here is only
 // what is read and written. Where standard input cannot be read nothing is printed, and where the output cannot be written that is said: both on standard error.
+#![tactic(auto)]
+
 ghost use Rattle.std.specs.Prelude.{◌≤◌, length};
 ghost use Rattle.printing.specs.Laid.{InFront};
 ghost use Rattle.outline.specs.Input.{Within};
@@ -8,7 +10,7 @@ use libc::{STDERR_FILENO, STDIN_FILENO, STDOUT_FILENO};
 use printing::Printed;
 
 // How many bytes were read up to the end of the input or of the room, or that a read failed.
-#[derive(Drop)]
+#[derive(Clone, Copy)]
 enum Input {
     Bytes(usize),
     Failed,

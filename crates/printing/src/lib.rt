@@ -1,4 +1,6 @@
 // What the program prints: a text in, the bytes of the output out, on plain slices. specs/Output.antt says what they are.
+#![tactic(auto)]
+
 mod bytes;
 mod lines;
 
@@ -13,7 +15,7 @@ use sheet::{Answer, Edge};
 use text::Reading;
 
 // How many bytes were printed, or that the slice lent for them is too short.
-#[derive(Drop)]
+#[derive(Clone, Copy)]
 pub enum Printed {
     Bytes(usize),
     TooShort,

@@ -1,5 +1,7 @@
 // Rows in the lent slice. How a row lies in its eight numbers is known here, and to the searches of the crate finding, which look at rows in place: specs/Layout.antt says
 // it, and the functions here are proved equal to what the steps do with a table of rows laid out so.
+#![tactic(auto)]
+
 ghost use Rattle.std.specs.Prelude.{◌≡◌, ◌+◌, ◌<◌, pos, negsuc, length, replicate, true};
 ghost use Rattle.std.specs.Int.Signed.{lt_z, mag};
 ghost use Rattle.steps.specs.Rows.{on};
@@ -17,7 +19,7 @@ pub const NUMBERS: usize = 8;
 const FILM: usize = 7;
 
 // A point with a film. Edges meet only within a film.
-#[derive(Drop)]
+#[derive(Clone, Copy)]
 pub struct Place {
     pub film: i32,
     pub point: Point,

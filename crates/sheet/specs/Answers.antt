@@ -1,5 +1,5 @@
 -- The answer sheet of the numbering (01, "The answer sheet", and 16 and 17 of 02): each refusal's number and place, when it is given, what it leaves, the order of trying.
-use Rattle.std.specs.Prelude.{ℕ, zero, suc, ◌+◌, ◌-◌, ◌*◌, ◌%◌, Bool, true, false, cond, not, ◌&&◌, ◌||◌, List, ◌++◌, eqb, ltb, ℤ, pos, length, replicate}
+use Rattle.std.specs.Prelude.{ℕ, zero, suc, ◌-◌, ◌*◌, ◌%◌, Bool, true, false, cond, not, ◌&&◌, ◌||◌, List, ◌++◌, eqb, ltb, ℤ, pos, length, replicate}
 use Rattle.laws.specs.Counting.{some_below, first}
 use Rattle.sheet.specs.declared.Refusal.{Refusal}
 use Rattle.sheet.specs.declared.Refusal.TheVariants.{

@@ -1,5 +1,7 @@
 // Points and edges with what belongs to them: the order, sameness, top, bottom, up or down, the range, the rank.
 // Then the answers of the two calls. What each means is defined in specs/, in the paper's words.
+#![tactic(auto)]
+
 ghost use Rattle.std.specs.Prelude.{◌≡◌, ◌+◌, ◌*◌, ◌<◌, min, max, length};
 ghost use Rattle.sheet.specs.Points.{is_below, is_same, within, in_range, is_film, is_up, top_of, bottom_of};
 ghost use Rattle.sheet.specs.Rank.{shift, rank};
@@ -8,7 +10,7 @@ ghost use Rattle.sheet.specs.Answers.{number_of, place_of};
 ghost use Rattle.sheet.specs.TurnList.{turn_number_of, turn_place_of};
 ghost use Rattle.sheet.specs.Amounts.{numbers_per_edge};
 
-#[derive(Drop)]
+#[derive(Clone, Copy)]
 pub struct Point {
     pub x: i32,
     pub y: i32,
@@ -74,7 +76,7 @@ fn shifted(c: i32) -> u32
     ((c as i64) + 1_000_000) as u32
 }
 
-#[derive(Drop)]
+#[derive(Clone, Copy)]
 pub struct Edge {
     pub tail: Point,
     pub head: Point,
@@ -191,7 +193,7 @@ fn lower(a: u64, b: u64) -> u64
 }
 
 // Why the numbering refuses a call. Each has its number and its place in the paper; the place is an edge's where one is held.
-#[derive(Drop)]
+#[derive(Clone, Copy)]
 pub enum Refusal {
     NotWhole,
     TooMany,
@@ -248,14 +250,14 @@ impl Refusal {
 }
 
 // What the checks before the sweeps answer.
-#[derive(Drop)]
+#[derive(Clone, Copy)]
 pub enum Check {
     Passed,
     Refused(Refusal),
 }
 
 // What the numbering answers.
-#[derive(Drop)]
+#[derive(Clone, Copy)]
 pub enum Answer {
     Accepted {
         polygons: u32,
@@ -266,7 +268,7 @@ pub enum Answer {
 }
 
 // Why a turn list is refused.
-#[derive(Drop)]
+#[derive(Clone, Copy)]
 pub enum TurnRefusal {
     TurnLengths,
     NoPolygon(u32),
@@ -299,7 +301,7 @@ impl TurnRefusal {
 }
 
 // What the turn list answers: the number of polygons, or why not.
-#[derive(Drop)]
+#[derive(Clone, Copy)]
 pub enum TurnAnswer {
     Accepted(u32),
     Refused(TurnRefusal),

@@ -29,6 +29,10 @@ size-pos (suc n) e b d p h = mul-pos (zero-lt-suc n) (up_pos e)
 pub div-values : (f : Format) (x y : Float) (s t : Bool) (a c b d : ℕ) → 0 < c → 0 < b → HasValue x s a c → HasValue y t b d
     → div f x y ≡ round f (unlike s t) (a * d) (b * c)
 unfolding div
+div-values f lib.Ieee.nan y s t a c b d C B v k = elim v [ ]
+div-values f (lib.Ieee.inf _) y s t a c b d C B v k = elim v [ ]
+div-values f (fin u m e) lib.Ieee.nan s t a c b d C B v k = elim k [ ]
+div-values f (fin u m e) (lib.Ieee.inf _) s t a c b d C B v k = elim k [ ]
 div-values f (fin u m e) (fin w n g) s t a c b d C B v k =
     rw (ne_eqb n 0 (not-zero n g b d B k.1), ← v.0, ← k.0) (round_same f (unlike u w) (m * up e * down g) (n * up g * down e) (a * d) (b * c)
     (mul-pos (size-pos n g b d B k.1) (down_pos e)) (mul-pos B C) (over (m * up e) (down e) a c (n * up g) (down g) b d v.1 k.1))

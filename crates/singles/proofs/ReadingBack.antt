@@ -13,6 +13,8 @@ size-read m e n c h = ap (λ (x : ℕ). x / down e) h ∙ mul-div_cancel n (down
 
 pub read-exactly : (x : Float) (z : ℤ) (c : ℕ) → Exactly x z c → read c x ≡ z
 unfolding read
+read-exactly lib.Ieee.nan z c v = elim v [ ]
+read-exactly (lib.Ieee.inf _) z c v = elim v [ ]
 read-exactly (fin false m e) (pos n) c v = ap pos (size-read m e n c v.1)
 read-exactly (fin true m e) (pos n) c v = absurd (true≢false v.0)
 read-exactly (fin false m e) (negsuc n) c v = absurd (false≢true v.0)

@@ -1,4 +1,6 @@
 // Single-precision numbers that are exact: what operations on them give where nothing is rounded.
+#![tactic(auto)]
+
 ghost use Rattle.std.specs.Prelude.{◌≡◌, ◌≤◌, nat_abs};
 ghost use Rattle.singles.specs.Singles.{Exactly, single};
 

@@ -1,8 +1,10 @@
 // The words that the steps and the code share: a branch's side, what a search answers, how a treatment ends.
+#![tactic(auto)]
+
 ghost use Rattle.std.specs.Prelude.{◌≡◌};
 ghost use Rattle.steps.specs.Rows.{other_side};
 
-#[derive(Drop)]
+#[derive(Clone, Copy)]
 pub enum Side {
     Rising,
     Falling,
@@ -20,14 +22,14 @@ impl Side {
 }
 
 // What a search for a row answers.
-#[derive(Drop)]
+#[derive(Clone, Copy)]
 pub enum Found {
     At(usize),
     Nothing,
 }
 
 // How treating an edge ended: it is done; step 1 found no free row; or the levels, the journal or the lengths ran out, which no checked list makes happen.
-#[derive(Drop)]
+#[derive(Clone, Copy)]
 pub enum End {
     Done,
     NoFreeRow,

@@ -1,5 +1,7 @@
 // The two sweeps over the lent slices. Every function is equal to the step of the crate steps that it does, on the slices of specs/, so that each
 // contract gives every number that is left in a slice. Here are the values that the sweeps hand on.
+#![tactic(auto)]
+
 pub mod down;
 mod treating;
 pub mod up;
@@ -15,7 +17,7 @@ use sheet::Point;
 use steps::{End, Side};
 
 // How far a sweep up has come: the records written, the peak, and how the last treatment ended.
-#[derive(Drop)]
+#[derive(Clone, Copy)]
 pub struct Progress {
     pub records: usize,
     pub peak: usize,
@@ -42,7 +44,7 @@ fn is_done(end: End) -> bool
 }
 
 // An edge of any level: its name, its ends, its film, its two lengths, whether its top is apart, and the numbers of the places of its ends.
-#[derive(Drop)]
+#[derive(Clone, Copy)]
 struct NamedEdge {
     name: usize,
     tail: Point,
@@ -107,7 +109,7 @@ impl NamedEdge {
 }
 
 // What the loop over a list ended with: the progress, and the edge that was treated last.
-#[derive(Drop)]
+#[derive(Clone, Copy)]
 pub struct Swept {
     pub progress: Progress,
     pub edge: usize,

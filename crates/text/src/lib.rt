@@ -1,6 +1,8 @@
 // Reading the program's standard input: a number, a line, a whole text, as functions on a slice of bytes.
 // A cursor is a place in the text, by value: each reading hands on the cursor that stands after what it read.
 // What each answer is, is defined in specs/.
+#![tactic(auto)]
+
 ghost use Rattle.std.specs.Prelude.{◌≡◌, ◌+◌, ◌*◌, ◌-◌, ◌<◌, ◌≤◌, length};
 ghost use Rattle.text.specs.Said.{number_said, step_said, line_said};
 ghost use Rattle.text.specs.Numbers.{byte_at, is_digit, minus_at, digits_at, digits_from, value_at, is_numeral, with_sign, number_at};
@@ -11,34 +13,34 @@ ghost use Rattle.sheet.specs.Amounts.{numbers_per_edge};
 use sheet::Point;
 
 // A place in the text.
-#[derive(Drop)]
+#[derive(Clone, Copy)]
 pub struct Cursor {
     pub at: usize,
 }
 
 // A number with the cursor after it.
-#[derive(Drop)]
+#[derive(Clone, Copy)]
 pub enum Number {
     Value(i32, Cursor),
     Malformed,
 }
 
 // The cursor after one byte that must stand.
-#[derive(Drop)]
+#[derive(Clone, Copy)]
 pub enum Step {
     On(Cursor),
     Malformed,
 }
 
 // A line's edge with the cursor after the line.
-#[derive(Drop)]
+#[derive(Clone, Copy)]
 pub enum Line {
     Edge(sheet::Edge, Cursor),
     Malformed,
 }
 
 // What a text holds: how many edges, or why it is refused. A malformed line has its number, from 1.
-#[derive(Drop)]
+#[derive(Clone, Copy)]
 pub enum Reading {
     TooMuch,
     Malformed(u32),

@@ -1,6 +1,8 @@
 // The turn list: the places of the edges, polygon by polygon, each polygon in sequence order, read from a numbering; refusals 11 to 14.
 // What is right, specs/TurnList.antt of the crate sheet says. An edge's polygon and sequence number make one key, and the keys are put in order: an
 // edge's place among them is its place in the turn list. 13 and 14 ask where a key stands, by halving. All in all that is n log n steps.
+#![tactic(auto)]
+
 ghost use Rattle.std.specs.Prelude.{◌≡◌, ℕ, ◌<◌, ◌≤◌, length, get_or};
 ghost use Rattle.laws.specs.Counting.{first};
 ghost use Rattle.sheet.specs.TurnList.{number_lists, lengths_differ, pair_repeated, gap, turned, TurnsAfter};
