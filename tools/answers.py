@@ -24,6 +24,8 @@ def blocks(text):
     """The top-level definitions of a file: (kind, lines)."""
     out, current = [], []
     for line in text.splitlines():
+        if line and line[0] in ")]}":
+            line = "    " + line
         starts = line and not line[0].isspace() and not line.startswith("unfolding")
         name = re.match(rf"(?:(?:abbrev|unfoldable|pub) )*({IDENT})", line)
         if starts and current:
