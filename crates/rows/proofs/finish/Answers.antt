@@ -4,7 +4,6 @@ use Rattle.laws.proofs.Bits.{stored-again}
 use Prim.Native.Nat.{◌+◌}
 use lib.Signed.{mag}
 use lib.IntN.{negsuc}
-use borrow.Author.Rules.{rules}
 use Rattle.rows.proofs.finish.Goals as goal
 
 pub returns : goal.returns

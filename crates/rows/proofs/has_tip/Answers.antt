@@ -1,6 +1,5 @@
 -- `rows::has_tip` meets its contract. Each way out decides the test by the law of Tips for it.
 use mathlib.Core.Path.{refl}
-use borrow.Author.Rules.{rules}
 use borrow.Author.Tests.{eq-eqb, ne_eqb}
 use Rattle.rows.specs.Layout.{branch_at}
 use Rattle.rows.proofs.Tips.{mark-fits, other-level, finished-there, other-height, other-x, film-decides}

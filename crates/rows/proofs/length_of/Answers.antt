@@ -1,7 +1,6 @@
 -- `rows::length_of` meets its contract. The branch's third number tells the length.
 use Rattle.laws.proofs.Bits.{read_back}
 use Rattle.rows.proofs.Looking.{length_is}
-use borrow.Author.Rules.{rules}
 use Rattle.rows.proofs.length_of.Goals as goal
 
 pub returns : goal.returns

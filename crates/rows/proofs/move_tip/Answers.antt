@@ -7,7 +7,6 @@ use native.Mathlib.Omega.{arith}
 use mathlib.Core.List.{[], ◌∷◌}
 use lib.IntN.{pos}
 use Rattle.rows.proofs.Signs.{plain-read}
-use borrow.Author.Rules.{rules}
 use Rattle.rows.proofs.move_tip.Goals as goal
 
 pub bounds-rows-b-2 : goal.bounds-rows-b-2

@@ -2,7 +2,6 @@
 use Rattle.laws.proofs.Bits.{read_back}
 use Rattle.rows.specs.Layout.{film_in}
 use Rattle.rows.proofs.Looking.{tip_is}
-use borrow.Author.Rules.{rules}
 use Rattle.rows.proofs.tip_of.Goals as goal
 
 pub returns : goal.returns
