@@ -1,0 +1,17 @@
+-- `finding::free::take` meets its contract. The row's word is read and stored again, where the slice has it.
+use Prim.Native.Nat.{◌%◌}
+use mathlib.Core.Path.{sym}
+use native.Mathlib.Omega.{arith}
+use lib.Seq.{set_out, get_or-set_other}
+use Rattle.laws.proofs.Digits.{one_shifted}
+use Rattle.finding.specs.Free.{word_at, taken_in}
+use Rattle.finding.proofs.free.take.Goals as goal
+
+pub returns-then-w-counts : goal.returns-then-w-counts
+unfolding taken_in
+returns-then-w-counts c = let a = c.args in
+    rw (get_or-set_other a.counts.now 2 (word_at a.r) _ 0 (λ e. omega arith), one_shifted 64 (a.r % 64) (omega arith))
+
+pub returns-else-w-counts : goal.returns-else-w-counts
+unfolding taken_in
+returns-else-w-counts c = sym (set_out _ _ _ c.if-w-counts.false)
