@@ -164,6 +164,7 @@ def by_path(fields, path):
 def respell(body, fn):
     """Paths from `c` as they are named today."""
     body = re.sub(r"\.before(?![\w-])", "", body)
+    body = body.replace(".type-inv", ".type_inv").replace(".well-formed", ".well_formed")
     # variables that stand for a path
     while True:
         found = re.search(rf"let ({IDENT}) = (c(?:\.{IDENT})*) in\s*", body)
@@ -234,17 +235,22 @@ def turn(folder, names, crate):
     cycle = module.split(".")[-1].startswith("+")
     own = module.split(".")[-1].lstrip("+")
     header, uses, invariants, answers, others, said = [], [], [], [], [], []
+    comment = []
     defined = {}
     closing = ""
     for b in blocks(text):
         first = b[0]
         if first.startswith("--"):
-            header += b
+            if uses:
+                comment += b
+            else:
+                header += b
             continue
         if first.startswith("use "):
             uses += b
             continue
-        whole = "\n".join(b)
+        whole = "\n".join(comment + b)
+        note, comment = "".join(l + "\n" for l in comment), []
         sig = re.match(rf"(?:(?:abbrev|unfoldable|pub) )*(\+?{IDENT}) : (.*)", first)
         if not sig:
             others.append(whole)
@@ -256,15 +262,15 @@ def turn(folder, names, crate):
             continue
         kind = re.search(rf"\b{IDENT}\.(invariant|decreases)-({IDENT})", type_)
         if kind and first.startswith("abbrev"):
-            eq = whole.split("\n", 1)[1]
-            lhs, rhs = eq.split(" = ", 1)
+            eq = "\n".join(b[1:])
+            lhs, rhs = re.split(r"\s=\s", eq, maxsplit=1)
             args = lhs.split()[1:]
             entry = fn.loops.get(norm(kind.group(2)))
             if entry is None:
                 said.append(f"{folder}: no loop {kind.group(2)}")
                 continue
             new, variables, changed = entry
-            invariants.append(f"abbrev pub {kind.group(1)}-{new} : goal.{kind.group(1)}-{new}\n{kind.group(1)}-{new} l = {invariant(args, rhs, variables, changed)}")
+            invariants.append(f"{note}abbrev pub {kind.group(1)}-{new} : goal.{kind.group(1)}-{new}\n{kind.group(1)}-{new} l = {invariant(args, rhs, variables, changed)}")
             continue
         if cycle and re.search(r"^(abbrev )?\S*(μ|-at|-below|-calls|\bat|\bbelow|\bcalls)", first) and ("Measures" in first or "In " in first or "Claims" in first):
             if "Measures" in first:
@@ -284,7 +290,10 @@ def turn(folder, names, crate):
                 others.append("-- LOST " + whole.replace("\n", "\n-- "))
                 continue
             defined[name] = new
+            at = len(answers)
             emit(answers, fn, new, keep, rhs, unfolding)
+            if note and len(answers) > at:
+                answers[at] = note + answers[at]
             continue
         others.append(respell(whole, fn))
         if "tie." in whole or "lts." in whole:

@@ -13,7 +13,7 @@ use Rattle.steps.specs.declared.Side.TheVariants.{Rising, Falling}
 use Rattle.steps.specs.declared.Found.{Found}
 use Rattle.steps.specs.declared.Found.TheVariants.{At, Nothing}
 use Rattle.steps.specs.declared.End.TheVariants.{Done}
-use Rattle.steps.specs.Rows.{on, Row, lowest_free}
+use Rattle.steps.specs.Rows.{Row, lowest_free}
 use Rattle.steps.specs.SweepUp as up
 use Rattle.steps.specs.SweepUp.{found_below}
 use Rattle.steps.specs.Swept.{rows_in}
