@@ -1,8 +1,6 @@
 -- `digits_from` counts the digits in a row. The loop is a search for the first byte that is none: all bytes passed are digits.
-use Rattle.text.proofs.Numerals.{no_digit, tried}
-use Rattle.text.specs.Numbers.{digits_from}
-use Rattle.laws.proofs.Searching.{NoneBelow, none_yet, none_more, found_first, found_none}
-use borrow.Author.Rules.{rules}
+use Rattle.text.proofs.Numerals.{no_digit}
+use Rattle.laws.proofs.Searching.{NoneBelow}
 use Prim.Native.Nat.{◌≤◌, ◌-◌}
 use Rattle.text.proofs.digits_from.Given as goal
 

@@ -1,6 +1,5 @@
 -- `read` tries the limits and the room and then reads the lines: one law for each way out.
 use Rattle.text.proofs.Limits.{many-bytes, many-lines, little-room, lines-read}
-use borrow.Author.Rules.{rules}
 use Rattle.text.proofs.read.Goals as goal
 
 pub returns-then-text-gt-MOST_BYTES : goal.returns-then-text-gt-MOST_BYTES

@@ -1,8 +1,6 @@
 -- `read_lines` goes from line to line. The invariant: the lines passed are well formed and their edges written, and the cursor stands where the
 -- next begins. One law for each way out of the loop's body, and one for its end.
-use Rattle.text.proofs.Tried.{SoFar, none_so_far, stopped, ran_out, one_more}
-use borrow.Author.Rules.{rules}
-use native.Mathlib.Omega.{arith}
+use Rattle.text.proofs.Tried.{SoFar}
 use Prim.Native.Nat.{◌≤◌, ◌-◌}
 use Rattle.text.proofs.read_lines.Given as goal
 
