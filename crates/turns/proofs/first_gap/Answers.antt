@@ -1,9 +1,7 @@
 -- `turns::first_gap` meets its contract. The loop's invariant: 14 holds of no edge below e.
 use borrow.Author.Rules.{rules}
 use mathlib.Core.Path.{sym, ◌∙◌}
-use Prim.Native.Nat.{◌≤◌, ◌-◌}
-use Rattle.laws.proofs.Searching.{NoneBelow, none_yet, none_more, found_first, found_none}
-use Rattle.sheet.specs.TurnList.{number_lists, gap}
+use Rattle.laws.proofs.Searching.{none_yet, none_more, found_first, found_none}
 use Rattle.turns.proofs.first_gap.Goals as goal
 
 pub loop-e-init : goal.loop-e-init

@@ -1,8 +1,6 @@
 -- `turns::first_gap` meets its contract. The loop's invariant: 14 holds of no edge below e.
-use borrow.Author.Rules.{rules}
-use mathlib.Core.Path.{sym, ◌∙◌}
 use Prim.Native.Nat.{◌≤◌, ◌-◌}
-use Rattle.laws.proofs.Searching.{NoneBelow, none_yet, none_more, found_first, found_none}
+use Rattle.laws.proofs.Searching.{NoneBelow}
 use Rattle.sheet.specs.TurnList.{number_lists, gap}
 use Rattle.turns.proofs.first_gap.Given as goal
 

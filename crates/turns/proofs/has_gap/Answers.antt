@@ -1,5 +1,4 @@
 -- `turns::has_gap` meets its contract: the sequence number before is missing, or the polygon before is.
-use borrow.Author.Rules.{rules}
 use Rattle.sheet.specs.TurnList.{number_lists}
 use Rattle.turns.proofs.Gaps.{gap-by-sequence, gap-by-polygon}
 use Rattle.turns.proofs.has_gap.Goals as goal

@@ -1,9 +1,7 @@
 -- `turns::pack_keys` meets its contract. The loop's invariant: the first e words are the keys of the edges below e.
-use borrow.Author.Rules.{rules}
-use native.Mathlib.Omega.{arith}
 use Prim.Native.Nat.{◌≤◌, ◌-◌}
 use lib.ListN.{length}
-use Rattle.laws.proofs.Filling.{Filled, filled_none, filled_more}
+use Rattle.laws.proofs.Filling.{Filled}
 use Rattle.sheet.specs.TurnList.{number_lists}
 use Rattle.turns.specs.Keys.{key_at}
 use Rattle.turns.proofs.pack_keys.Given as goal

@@ -1,6 +1,5 @@
 -- `turns::turn_list` meets its contract: 11 by its law, and the rest as `turn_numbers` has it. That it accepts exactly the good numberings is a law of
 -- its answer.
-use borrow.Author.Rules.{rules}
 use mathlib.Core.Path.{refl, ◌∙◌}
 use Rattle.turns.proofs.Answering.{turned-differing, turned-numbers, turned-sizes, turned-room, answers-exactly}
 use Rattle.turns.proofs.turn_list.Goals as goal

@@ -37,7 +37,7 @@ returns-then-missing-n-clause-turns c = refl
 
 pub returns : goal.returns
 unfolding number_lists
-returns c = let whole = (
-  numbers-accepted _ _ c.first_without-none.ensures c.if-none-n.false c.first_again-again.ensures.again c.if-again-n.false c.first_gap-missing.ensures c.if-missing-n.false (c.last_polygon.ensures ∙ last-largest c.order_keys.ensures),
-  ordered-turns c.order_keys.ensures (c.first_again-again.ensures.order c.if-again-n.false) _ (search rules) (λ p l. c.write_turns.ensures p (omega arith)),
-) in record { answer = whole.0; turns = whole.1 }
+returns c = record {
+  answer = numbers-accepted _ _ c.first_without-none.ensures c.if-none-n.false c.first_again-again.ensures.again c.if-again-n.false c.first_gap-missing.ensures c.if-missing-n.false (c.last_polygon.ensures ∙ last-largest c.order_keys.ensures);
+  turns = ordered-turns c.order_keys.ensures (c.first_again-again.ensures.order c.if-again-n.false) _ (search rules) (λ p l. c.write_turns.ensures p (omega arith));
+}

@@ -1,0 +1,13 @@
+-- `checks::corners::turn` meets its contract: the second edge leaves from the head of the first.
+use Rattle.sheet.specs.Edges.{drawing_of}
+use Rattle.ends.proofs.Fitting.{tail-in, head_in}
+use Rattle.checks.proofs.AtCorners.{leaves_at_lem, turn-kept}
+use Rattle.checks.proofs.corners.turn.Goals as goal
+
+pub turn-requires : goal.turn-requires
+turn-requires c = rw (c.at-came.ensures, c.at-goes.ensures) (head_in c.requires.0 _ c.requires.1, tail-in c.requires.0 _ c.requires.1, head_in c.requires.0 _ c.requires.2)
+
+pub returns : goal.returns
+unfolding drawing_of
+returns c = let at = leaves_at_lem c.requires.0 c.requires.1 c.requires.2 c.requires.3 in
+    rw (c.turn.ensures, c.at-came.ensures, c.at-goes.ensures, at) (rw at at (turn-kept c.requires.0 c.requires.1 c.requires.2 c.requires.3))

@@ -1,0 +1,10 @@
+-- `cut` meets its contract: it hands on the two numbers of the point's place.
+use mathlib.Core.Path.{ap}
+use Rattle.cutter.specs.Blade.{cut_to}
+use Rattle.cutter.proofs.blade.cut.Goals as goal
+
+pub place_for-place-requires : goal.place_for-place-requires
+place_for-place-requires c = c.requires
+
+pub returns : goal.returns
+returns c = ap cut_to c.place_for-place.ensures
