@@ -2,7 +2,7 @@
 -- after a match is told by the two rows' names, as the paths tell it by their owners.
 use mathlib.Core.Path.{◌≡◌, refl, ap, sym, ◌∙◌}
 use mathlib.Core.Bool.{Bool, true, false}
-use mathlib.Core.Logic.{◌⊎◌, ⊎_elim}
+use mathlib.Core.Logic.{⊎_elim}
 use Prim.Native.Nat.{ℕ, ◌+◌, ◌<◌}
 use Rattle.laws.proofs.Deciding.{eq-or-ne}
 use Rattle.steps.specs.declared.Side.{Side}
@@ -11,8 +11,7 @@ use Rattle.steps.specs.Rows.{other_side, Both, on, with, Branch, Row, LevelEdge}
 use Rattle.steps.specs.SweepUp.{top}
 use Rattle.steps.specs.Plain as plain
 use Rattle.steps.specs.Plain.{with_branch, finished_branch}
-use Rattle.hartley.proofs.paths.Plan.{tip}
-use Rattle.hartley.proofs.paths.DownLaw.{pick, put}
+use Rattle.hartley.proofs.paths.DownLaw.{pick}
 use Rattle.hartley.proofs.paths.TableWritten.{put-at, put-off}
 use Rattle.hartley.proofs.seams.Seams.{finished_now}
 use Rattle.hartley.proofs.invariant.Invariant.{side-cases}

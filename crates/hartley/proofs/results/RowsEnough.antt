@@ -2,7 +2,7 @@
 -- the edge's top, so at most C less two, and a level that is in use has an outline of 2 ^ level edges with room for it, so at most the whole part of log2 L levels
 -- are. One row more than all these is never lacked, nor is C times the levels, which is more.
 use mathlib.Core.Path.{◌≡◌, refl, ap, sym, ◌∙◌}
-use mathlib.Core.Logic.{◌⊎◌, ⊎_elim}
+use mathlib.Core.Logic.{⊎_elim}
 use Prim.Native.Nat.{ℕ, suc, ◌+◌, ◌-◌, ◌*◌, ◌^◌, ◌≤◌, ◌<◌}
 use native.Mathlib.Nat.{mul_comm, mul-add, mul-le-mul_left}
 use native.Mathlib.Omega.{arith}

@@ -17,7 +17,7 @@ use Rattle.hartley.proofs.paths.JournalRead.{recs, records-recs}
 use Rattle.hartley.proofs.paths.Paths.{edge, out, Paths, size, Chain}
 use Rattle.hartley.proofs.paths.Outlines.{Outs}
 use Rattle.hartley.proofs.paths.JournalLinked.{Naming, Linked}
-use Rattle.hartley.proofs.paths.RecordsCounted.{records, closes, listed}
+use Rattle.hartley.proofs.paths.RecordsCounted.{closes, listed}
 use Rattle.hartley.proofs.invariant.TableTied.{State}
 use Rattle.hartley.proofs.invariant.BeforeTheFirst as init
 use Rattle.hartley.proofs.invariant.BeforeTheFirst.{unborn, begin}

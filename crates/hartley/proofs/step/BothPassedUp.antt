@@ -1,7 +1,7 @@
 -- The passes of step 4. When the first row of a match has been passed up, the second is as it was; so both passes together keep what one treatment keeps.
 use mathlib.Core.Path.{◌≡◌, refl, ap, sym, ◌∙◌}
 use mathlib.Core.List.{List}
-use mathlib.Core.Logic.{◌⊎◌, ⊎_elim}
+use mathlib.Core.Logic.{⊎_elim}
 use Prim.Native.Nat.{ℕ, suc, ◌≤◌, ◌<◌}
 use native.Mathlib.Omega.{arith}
 use Rattle.laws.proofs.Deciding.{eq-or-ne, not-both}

@@ -4,7 +4,7 @@
 use mathlib.Core.Path.{◌≡◌, refl, ap, sym, ◌∙◌, subst, subst₂}
 use mathlib.Core.Bool.{Bool, true, false, cond}
 use mathlib.Core.List.{List, ◌∷◌}
-use mathlib.Core.Logic.{◌⊎◌, ⊎_elim}
+use mathlib.Core.Logic.{⊎_elim}
 use Prim.Native.Nat.{ℕ, zero, suc, ◌+◌, ◌-◌, ◌*◌, ◌≤◌, ◌<◌}
 use native.Mathlib.Omega.{arith}
 use lib.Dec.{eqb, ltb}
@@ -32,7 +32,6 @@ use Rattle.hartley.proofs.paths.JournalRead.{recs, records-recs}
 use Rattle.hartley.proofs.paths.Paths.{Owner, edge, row, Paths, size, first-real}
 use Rattle.hartley.proofs.paths.JournalLinked.{Naming, name_of, to_place}
 use Rattle.hartley.proofs.paths.RecordsCounted.{edge_bit, listed}
-use Rattle.hartley.proofs.invariant.Invariant as invariant
 use Rattle.hartley.proofs.invariant.Invariant.{Time, side-cases, lone-real, single}
 use Rattle.hartley.proofs.invariant.TableTied.{Table, State, Tied, marks_of, not-edge, tie-free, tie_none}
 use Rattle.hartley.proofs.invariant.LeftAlone.{Whole, WholeBy, Kept, Passed, untouched}

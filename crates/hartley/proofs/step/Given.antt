@@ -2,7 +2,7 @@
 -- written (`Held`), which later records leave.
 use mathlib.Core.Path.{◌≡◌, ap, sym, ◌∙◌, subst₂}
 use mathlib.Core.List.{List}
-use mathlib.Core.Logic.{◌⊎◌, ⊎_elim}
+use mathlib.Core.Logic.{⊎_elim}
 use Prim.Native.Nat.{ℕ, zero, suc, ◌+◌, ◌*◌, ◌≤◌, ◌<◌}
 use native.Mathlib.Omega.{arith}
 use Rattle.laws.proofs.Deciding.{lt-or-le}
@@ -14,7 +14,7 @@ use Rattle.steps.specs.Plain as plain
 use Rattle.steps.specs.Swept.{plain_room}
 use Rattle.hartley.proofs.paths.Plan.{Plan, Lawful, plan_of, lawful}
 use Rattle.hartley.proofs.paths.Differences.{diff}
-use Rattle.hartley.proofs.paths.DownLaw.{Name, of_edge, of_row, name_at, Rec, put, at, place}
+use Rattle.hartley.proofs.paths.DownLaw.{Name, of_edge, of_row, name_at, Rec, at, place}
 use Rattle.hartley.proofs.paths.TableWritten.{put-at, put-off}
 use Rattle.hartley.proofs.paths.JournalRead.{recs, recs-older}
 use Rattle.sheet.specs.Amounts.{most_edges}
