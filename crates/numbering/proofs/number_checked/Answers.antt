@@ -4,7 +4,6 @@ use native.Mathlib.Omega.{arith}
 use Rattle.sheet.specs.Edges.{edges_in}
 use Rattle.numbering.specs.OnSlices.{fitted}
 use Rattle.numbering.proofs.Leaving as leaving
-use borrow.Author.Rules.{rules}
 use Rattle.numbering.proofs.number_checked.Goals as goal
 
 pub slice_bounds-sweep_both-end-2 : goal.slice_bounds-sweep_both-end-2
