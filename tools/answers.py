@@ -57,7 +57,7 @@ def split_top(text):
             parts.append(text[start:i].strip())
             start = i + 1
     parts.append(text[start:].strip())
-    return parts
+    return parts if parts[-1] else parts[:-1]  # a comma may end them
 
 
 def pair(text):
