@@ -35,6 +35,7 @@ module _ (place : Point → Place) where
 
   first-orderly : (q : Point) (ps : List Point) (rest : List Instruction) → ClosedBy q ps → Orderly resting rest → Orderly travelled (cuts place ps (Lift ∷ rest))
   unfolding cuts
+  first-orderly q [] rest c h = elim c [ ]
   first-orderly q (p ∷ ps) rest c h = cuts-orderly ps rest h
 
   pub orderly : (os : List Outline) → AllClosed os → Orderly resting (programme place os)
@@ -76,6 +77,7 @@ module _ (place : Point → Place) where
 
   closed-ran : (h : Head) (q : Point) (ps : List Point) → ClosedBy q ps → ran h (cuts place ps (Lift ∷ [])) ≡ raised_at (place q)
   unfolding ran
+  closed-ran h q [] e = elim e [ ]
   closed-ran h q (p ∷ ps) e = cuts-ran h p q ps (Lift ∷ []) e
 
   -- what is run last decides, where it decides from every head

@@ -18,6 +18,10 @@ unfolding within
 in-limits (pos n) t = leb-true n 1000000 t
 in-limits (negsuc n) t = let h = leb-true n 999999 (both_true (leb n 999999) true t).0 in omega (arith, h)
 
+pub limit-fits : (z : ℤ) → nat_abs z ≤ 1000000 → SFits w32 z
+limit-fits (pos n) h = record { sfits = omega (arith, h) }
+limit-fits (negsuc n) h = record { sfits = omega (arith, h) }
+
 module _ (p : Point) (t : in_range p ≡ true) where
   pub x-limit : nat_abs p.x ≤ 1000000
   unfolding in_range
@@ -32,8 +36,4 @@ module _ (z : ℤ) (h : nat_abs z ≤ 1000000) where
   negated-limit = rw (negated_size z) h
 
   pub negated_fits : SFits w32 (neg_ℤ z)
-  negated_fits = small (neg_ℤ z) negated-limit
-    where
-      small : (z : ℤ) → nat_abs z ≤ 1000000 → SFits w32 z
-      small (pos n) h = record { sfits = omega (arith, h) }
-      small (negsuc n) h = record { sfits = omega (arith, h) }
+  negated_fits = limit-fits (neg_ℤ z) negated-limit

@@ -1,8 +1,6 @@
 -- `cutter::joining::first_broken` meets its contract. The loop's invariant: no position below i is at fault.
-use borrow.Author.Rules.{rules}
-use mathlib.Core.Path.{sym, ◌∙◌}
 use Prim.Native.Nat.{◌≤◌, ◌-◌}
-use Rattle.laws.proofs.Searching.{NoneBelow, none_yet, none_more, found_first, found_none}
+use Rattle.laws.proofs.Searching.{NoneBelow}
 use Rattle.cutter.specs.Outlines.{head_not_tail}
 use Rattle.cutter.proofs.joining.first_broken.Given as goal
 

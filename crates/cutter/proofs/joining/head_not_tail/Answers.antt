@@ -1,5 +1,4 @@
 -- `cutter::joining::head_not_tail` meets its contract: the two edges that it reads are those that the definition names.
-use borrow.Author.Rules.{rules}
 use native.Mathlib.Omega.{arith}
 use mathlib.Core.Path.{ap}
 use mathlib.Core.Bool.{not}
@@ -9,14 +8,10 @@ use Rattle.cutter.proofs.joining.head_not_tail.Goals as goal
 pub next_at-next-requires : goal.next_at-next-requires
 next_at-next-requires c = (c.requires.0, c.requires.2)
 
-pub overflow_cast-turns : goal.overflow_cast-turns
-overflow_cast-turns c = record { fits = omega (arith, c.shared_slice_known-3-1.given c.args.i) }
 
 pub at-edge-requires : goal.at-edge-requires
 at-edge-requires c = omega (arith, c.requires.0.within.edges c.args.i c.requires.2, c.requires.1)
 
-pub overflow_cast-turns-2 : goal.overflow_cast-turns-2
-overflow_cast-turns-2 c = record { fits = omega (arith, c.shared_slice_known-4-1.given c.next_at-next.result) }
 
 pub at-follower-requires : goal.at-follower-requires
 at-follower-requires c = omega (arith, c.requires.0.within.edges c.next_at-next.result c.next_at-next.ensures.1, c.requires.1)

@@ -1,6 +1,5 @@
 -- `cutter::programming::instruction_at` meets its contract. The position that is found is the first whose count passes k; where none does, k is the lift behind
 -- the last cut.
-use borrow.Author.Rules.{rules}
 use native.Mathlib.Omega.{arith}
 use mathlib.Core.Path.{sym, ◌∙◌}
 use Rattle.cutter.proofs.Standing.{within-polygons, edge-there}
@@ -19,8 +18,6 @@ position_of-i-requires c = within-polygons c.requires
 pub returns-then-turns-i : goal.returns-then-turns-i
 returns-then-turns-i c = when-lift c.args.machine c.args.edges.now c.args.polygons.now c.args.sequences.now c.args.turns.now c.requires.runs c.args.k (sym c.past_last.ensures ∙ c.if-past_last.false) (rw c.position_of-i.ensures at c.if-turns-i.true)
 
-pub overflow_cast-turns : goal.overflow_cast-turns
-overflow_cast-turns c = record { fits = omega (arith, c.shared_slice_known-4-1.given c.position_of-i.result) }
 
 pub at-edge-requires : goal.at-edge-requires
 at-edge-requires c = omega (arith, edge-there c.requires c.position_of-i.result c.if-turns-i.false, c.requires.long)

@@ -1,5 +1,4 @@
 -- `cutter::turning::check` meets its contract: each way out is a law of what is tried.
-use borrow.Author.Rules.{rules}
 use Rattle.cutter.proofs.TurnsTried.{on-polygons, on-sequences, on-turns, on-run}
 use Rattle.cutter.proofs.turning.check.Goals as goal
 
