@@ -177,9 +177,9 @@ unfolding listed
 five-each f h zero = refl
 five-each f h (suc n) = length-append (listed f n) (f n) ∙ omega (arith, h n, five-each f h n)
 
-edges_in : (s : List ℕ) (n : ℕ) → edges_in (edges_read s n) ≡ n
+edges_in_lem : (s : List ℕ) (n : ℕ) → edges_in (edges_read s n) ≡ n
 unfolding edges_in
-edges_in s n = omega (arith, five-each (λ i. five_numbers (edge_in (line_of s i))) (λ i. refl) n)
+edges_in_lem s n = omega (arith, five-each (λ i. five_numbers (edge_in (line_of s i))) (λ i. refl) n)
 
 -- so is all that the program prints
 pub enough-page : (s : List ℕ) → length (printed s) ≤ 8192
@@ -190,7 +190,7 @@ enough-page s = by (reading_of s 2560) refl
     by TooMuch e = short-refusal 2 0 (omega arith) (omega arith)
     by (Malformed line) e = short-refusal 15 line (omega arith) (omega (arith, malformed-at s line e))
     by (Edges n) e =
-        let m = edges_in s n in
+        let m = edges_in_lem s n in
         outcome-short (lent_for n (edges_read s n)) (omega (arith, (all_read s n e).few)) (omega arith) n m
 
 -- a page of 8,192 bytes is never too short

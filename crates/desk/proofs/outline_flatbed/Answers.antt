@@ -1,0 +1,6 @@
+-- `outline_flatbed` meets its contract: what `instruction` ensures, its answer as plain numbers.
+use Rattle.desk.proofs.Telling.{told}
+use Rattle.desk.proofs.outline_flatbed.Goals as goal
+
+pub returns : goal.returns
+returns c = told c.instruction.ensures c.cut_of.ensures

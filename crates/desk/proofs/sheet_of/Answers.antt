@@ -1,0 +1,11 @@
+-- `sheet_of` meets its contract, case by case of the answer.
+use mathlib.Core.Path.{sym, ap, ◌∙◌}
+use Rattle.desk.specs.Exported.{sheet_from}
+use Rattle.desk.proofs.sheet_of.Goals as goal
+
+pub returns-in-Accepted : goal.returns-in-Accepted
+returns-in-Accepted c = ap sheet_from (sym c.in-Accepted.is)
+
+pub returns-in-Refused : goal.returns-in-Refused
+returns-in-Refused c = (λ i. record { refusal = c.number.ensures i; place = c.place.ensures i; polygons = 0; peak = 0; records = 0 })
+    ∙ ap sheet_from (sym c.in-Refused.is)
