@@ -18,29 +18,29 @@ value_at-value-requires c = (is_number _ _ c.minus_at-minus.ensures c.digits_at-
 pub with_sign-requires : goal.with_sign-requires
 with_sign-requires c =
     let numeral = is_number _ _
-        c.minus_at-minus.ensures
-        c.digits_at-start.ensures
-        c.digits_from-digits.ensures
-        c.byte_at.ensures
-        (sym c.is_numeral.ensures ∙ c.if-not-is_numeral.false) in
+    c.minus_at-minus.ensures
+    c.digits_at-start.ensures
+    c.digits_from-digits.ensures
+    c.byte_at.ensures
+    (sym c.is_numeral.ensures ∙ c.if-not-is_numeral.false) in
     omega (arith, numeral.small, c.value_at-value.ensures)
 
 pub overflow_add-result : goal.overflow_add-result
 overflow_add-result c =
     let numeral = is_number _ _
-        c.minus_at-minus.ensures
-        c.digits_at-start.ensures
-        c.digits_from-digits.ensures
-        c.byte_at.ensures
-        (sym c.is_numeral.ensures ∙ c.if-not-is_numeral.false) in
+    c.minus_at-minus.ensures
+    c.digits_at-start.ensures
+    c.digits_from-digits.ensures
+    c.byte_at.ensures
+    (sym c.is_numeral.ensures ∙ c.if-not-is_numeral.false) in
     omega (arith, numeral.stands)
 
 pub returns : goal.returns
 returns c =
     let numeral = is_number _ _
-        c.minus_at-minus.ensures
-        c.digits_at-start.ensures
-        c.digits_from-digits.ensures
-        c.byte_at.ensures
-        (sym c.is_numeral.ensures ∙ c.if-not-is_numeral.false) in
+    c.minus_at-minus.ensures
+    c.digits_at-start.ensures
+    c.digits_from-digits.ensures
+    c.byte_at.ensures
+    (sym c.is_numeral.ensures ∙ c.if-not-is_numeral.false) in
     a-number numeral c.value_at-value.ensures c.with_sign.ensures
