@@ -1,5 +1,4 @@
 -- `turns::first_again` meets its contract. The loop's invariant is `Marking`.
--- the place that was asked for is that of the edge's key
 use native.Mathlib.Omega.{arith}
 use mathlib.Core.Path.{◌≡◌, ap, ◌∙◌}
 use lib.ListN.{length, get_or}
@@ -11,6 +10,7 @@ use Rattle.turns.proofs.Places.{place_at}
 use Rattle.turns.proofs.Marking.{marking-none, marking-room, marking-found, marking-more, marking-all, marking-ordered}
 use Rattle.turns.proofs.first_again.Goals as goal
 
+-- the place that was asked for is that of the edge's key
 here : (polygons sequences keys : List ℕ) (later k place : ℕ) → k ≡ key_of (get_or polygons later 0) (get_or sequences later 0) → place ≡ place_from keys (length polygons) k → place ≡ place_at (number_lists polygons sequences) keys later
 unfolding number_lists
 here polygons sequences keys later k place a b = b ∙ ap (place_from _ _) a

@@ -1,5 +1,4 @@
 -- `turns::first_again` meets its contract. The loop's invariant is `Marking`.
--- the place that was asked for is that of the edge's key
 use Prim.Native.Nat.{◌-◌}
 use Rattle.sheet.specs.TurnList.{number_lists}
 use Rattle.turns.proofs.Marking.{Marking}

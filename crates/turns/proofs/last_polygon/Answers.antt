@@ -8,7 +8,7 @@ pub returns-then-n-eq0 : goal.returns-then-n-eq0
 returns-then-n-eq0 c = last_none _ _ c.if-n-eq0.true
 
 pub overflow_cast-result : goal.overflow_cast-result
-overflow_cast-result c = record { fits = omega (arith, c.shared_slice_known-1.given (c.args.n - 1)) }
+overflow_cast-result c = record { fits = omega (arith, c.type_inv.keys (c.args.n - 1)) }
 
 pub returns : goal.returns
 returns c = last_some _ _ c.if-n-eq0.false

@@ -7,4 +7,4 @@ use Rattle.turns.proofs.order_keys.Goals as goal
 
 pub returns : goal.returns
 unfolding number_lists
-returns c = keyed-sorted c.pack_keys.ensures c.sort.ensures (search rules) (λ e. omega (arith, c.shared_slice_known-2-1.given e))
+returns c = keyed-sorted c.pack_keys.ensures c.sort.ensures (search rules) (λ e. omega (arith, c.type_inv.sequences e))

@@ -18,7 +18,6 @@ position_of-i-requires c = within-polygons c.requires
 pub returns-then-turns-i : goal.returns-then-turns-i
 returns-then-turns-i c = when-lift c.args.machine c.args.edges.now c.args.polygons.now c.args.sequences.now c.args.turns.now c.requires.runs c.args.k (sym c.past_last.ensures ∙ c.if-past_last.false) (rw c.position_of-i.ensures at c.if-turns-i.true)
 
-
 pub at-edge-requires : goal.at-edge-requires
 at-edge-requires c = omega (arith, edge-there c.requires c.position_of-i.result c.if-turns-i.false, c.requires.long)
 
