@@ -6,8 +6,8 @@ ghost use Rattle.std.specs.Prelude.{◌≤◌, length};
 ghost use Rattle.printing.specs.Laid.{InFront};
 ghost use Rattle.outline.specs.Input.{Within};
 
-use libc::{STDERR_FILENO, STDIN_FILENO, STDOUT_FILENO};
 use printing::Printed;
+use std::io::{Print, Read};
 
 // How many bytes were read up to the end of the input or of the room, or that a read failed.
 #[derive(Clone, Copy)]
@@ -17,16 +17,15 @@ enum Input {
 }
 
 // Reads until the input ends or the room is full.
-fn read_all(room: &mut [u8]) -> Input
+fn read_all<R: Read>(input: &mut R, room: &mut [u8]) -> Input
     ensures { Within result (length room.new) }
 {
     let mut n = 0;
     while n < room.len() {
-        let got = libc::read(STDIN_FILENO, &mut room[n..]);
-        if got < 0 {
-            return Input::Failed;
-        }
-        let more = io::count(got, &room[n..]);
+        let more = match input.read(&mut room[n..]) {
+            Ok(more) => more,
+            Err(_) => return Input::Failed,
+        };
         if more == 0 {
             return Input::Bytes(n);
         }
@@ -35,15 +34,16 @@ fn read_all(room: &mut [u8]) -> Input
     Input::Bytes(n)
 }
 
-fn complain(words: &[u8]) {
-    io::write_all(STDERR_FILENO, words);
+// Where even this cannot be written there is nobody left to tell.
+fn complain<E: Print>(error: &E, words: &[u8]) {
+    let _ = error.write_all(words);
 }
 
-fn write_out(page: &[u8], n: usize)
+fn write_out<O: Print, E: Print>(output: &O, error: &E, page: &[u8], n: usize)
     requires { n ≤ length page.now }
 {
-    if !io::write_all(STDOUT_FILENO, &page[..n]) {
-        complain(b"outline: standard output cannot be written\n");
+    if output.write_all(&page[..n]).is_err() {
+        complain(error, b"outline: standard output cannot be written\n");
     }
 }
 
@@ -59,19 +59,20 @@ fn print_on(page: &mut [u8], text: &[u8]) -> usize
 }
 
 // Prints the sheet of the room's first n bytes.
-fn print(room: &[u8], n: usize)
+fn print<O: Print, E: Print>(output: &O, error: &E, room: &[u8], n: usize)
     requires { n ≤ length room.now }
 {
     let mut page = [0u8; 8192];
     let printed = print_on(&mut page, &room[..n]);
-    write_out(&page, printed);
+    write_out(output, error, &page, printed);
 }
 
 // One byte more than a text may have is enough to see that it has too many.
-fn main() {
+fn main(rt: HostRuntime) {
     let mut room = [0u8; 20481];
-    match read_all(&mut room) {
-        Input::Bytes(n) => print(&room, n),
-        Input::Failed => complain(b"outline: standard input cannot be read\n"),
+    let mut input = rt.stdin();
+    match read_all(&mut input, &mut room) {
+        Input::Bytes(n) => print(&rt.stdout(), &rt.stderr(), &room, n),
+        Input::Failed => complain(&rt.stderr(), b"outline: standard input cannot be read\n"),
     }
 }
