@@ -10,12 +10,12 @@ loop-k-init c = (search rules, search rules, search rules, search rules, refl)
 
 pub loop-k-preserved : goal.loop-k-preserved
 loop-k-preserved c = (
-      omega (arith, c.loop-k.invariant.0, c.read_record-count.ensures.1, c.loop-k-test.true),
-      omega (arith, c.loop-k.invariant.1, c.read_record-count.auto),
-      omega (arith, c.loop-k.invariant.2, c.read_record-count.auto),
-      omega (arith, c.loop-k.invariant.3, c.read_record-count.auto),
-      down-more c.args.journal.now c.loop-k.k c.loop-k-test.true _ _ c.read_record-count.ensures.0 ∙ c.loop-k.invariant.4,
-    )
+  omega (arith, c.loop-k.invariant.0, c.read_record-count.ensures.1, c.loop-k-test.true),
+  omega (arith, c.loop-k.invariant.1, c.read_record-count.auto),
+  omega (arith, c.loop-k.invariant.2, c.read_record-count.auto),
+  omega (arith, c.loop-k.invariant.3, c.read_record-count.auto),
+  down-more c.args.journal.now c.loop-k.k c.loop-k-test.true _ _ c.read_record-count.ensures.0 ∙ c.loop-k.invariant.4,
+)
 
 pub returns : goal.returns
 returns c = let z : c.loop-k.k ≡ 0 = omega arith in

@@ -8,7 +8,7 @@ use Rattle.sweep.specs.Lookup.{tables, reading}
 use Rattle.sweep.proofs.down.sweep_down.Given as goal
 
 abbrev pub invariant-loop-k : goal.invariant-loop-k
-invariant-loop-k l =     (l.count + l.k ≤ l.records)
+invariant-loop-k l = (l.count + l.k ≤ l.records)
     × (length l.rows ≡ length l.initial.rows)
     × (length l.polygons ≡ length l.initial.polygons)
     × (length l.sequences ≡ length l.initial.sequences)

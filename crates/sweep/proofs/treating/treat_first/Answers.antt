@@ -44,9 +44,9 @@ finish-requires-2 c = omega (arith, c.finish.auto, c.attach-t.auto, c.if-rows_in
 
 pub pass_both-requires : goal.pass_both-requires
 pass_both-requires c = let hq = tip-has-row _ _ _ _ _ (c.meeting.ensures.there _ c.in-At.is).0 in (
-      omega (arith, hq, c.finish.auto, c.finish-2.auto),
-      omega (arith, c.finish-2.auto, c.finish.auto, c.attach-t.auto, c.if-rows_in-r.false, c.rows_in.ensures),
-      omega arith,
-      omega arith,
-      omega (arith, c.requires.1, c.chain_row-r.auto, c.attach-t.auto),
-    )
+  omega (arith, hq, c.finish.auto, c.finish-2.auto),
+  omega (arith, c.finish-2.auto, c.finish.auto, c.attach-t.auto, c.if-rows_in-r.false, c.rows_in.ensures),
+  omega arith,
+  omega arith,
+  omega (arith, c.requires.1, c.chain_row-r.auto, c.attach-t.auto),
+)

@@ -68,19 +68,18 @@ module _ (rows₀ journal₀ : List ℤ) {edges rows journal rows' journal' : Li
 
 pub loop-i-init : goal.loop-i-init
 unfolding sweep_up
-loop-i-init c = let g = c.args in
-    (
-      search rules,
-      search rules,
-      search rules,
-      search rules,
-      search rules,
-      refl,
-      λ P. (
-        rw (zero-at g.counts.now c.requires.counts.1 0, zero-at g.counts.now c.requires.counts.1 1),
-        indexed-none g.index.now g.rows.now (zero-at g.counts.now c.requires.counts.1 1) (rw c.requires.counts.1 (in-use-none (length g.counts.now) g.rows.now)),
-      ),
-    )
+loop-i-init c = let g = c.args in (
+  search rules,
+  search rules,
+  search rules,
+  search rules,
+  search rules,
+  refl,
+  λ P. (
+    rw (zero-at g.counts.now c.requires.counts.1 0, zero-at g.counts.now c.requires.counts.1 1),
+    indexed-none g.index.now g.rows.now (zero-at g.counts.now c.requires.counts.1 1) (rw c.requires.counts.1 (in-use-none (length g.counts.now) g.rows.now)),
+  ),
+)
 
 -- a mark of 1 tells that the edge's top is apart
 pub list_edge-next-requires : goal.list_edge-next-requires

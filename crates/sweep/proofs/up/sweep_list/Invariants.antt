@@ -10,7 +10,7 @@ use Rattle.sweep.specs.Slices.{lent_room, progress, list_edges, PlacesNumbered, 
 use Rattle.sweep.proofs.up.sweep_list.Given as goal
 
 abbrev pub invariant-loop-i : goal.invariant-loop-i
-invariant-loop-i l =     (l.i ≤ l.n)
+invariant-loop-i l = (l.i ≤ l.n)
     × (length l.rows ≡ length l.initial.rows)
     × (length l.journal ≡ length l.initial.journal)
     × (length l.index ≡ length l.initial.index)
