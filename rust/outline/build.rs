@@ -3,7 +3,7 @@
 //!
 //! 1. the file that the variable `OUTLINE_ARCHIVE` names, for any target;
 //! 2. what the command that makes it has left in the repository, where it is
-//!    newer than every source: `rt staticlib desk` for x86-64 Linux, and
+//!    newer than every source: `tools/build desk` for x86-64 Linux, and
 //!    `arm/build` for Arm Linux;
 //! 3. the one in `dist/`, where it was made from the sources as they are now;
 //! 4. a run of that command, which needs the Rattle toolchain.
@@ -28,19 +28,19 @@ const SOURCES: [&str; 2] = ["crates.txt", "crates"];
 /// What makes the archive for a kind of machine, and where it leaves it.
 struct Maker {
     program: &'static str,
-    words: [&'static str; 2],
+    words: &'static [&'static str],
     made: &'static str,
 }
 
 const X86_64: Maker = Maker {
-    program: "rt",
-    words: ["staticlib", NAME],
+    program: "tools/build",
+    words: &[NAME],
     made: "target/staticlib/libdesk.a",
 };
 
 const ARM: Maker = Maker {
     program: "arm/build",
-    words: ["--archive", "target/arm"],
+    words: &["--archive", "target/arm"],
     made: "target/arm/libdesk.a",
 };
 
@@ -112,10 +112,11 @@ fn written(file: &Path) -> Option<SystemTime> {
 }
 
 /// Whether a file, or everything in a folder, was written before this time.
-/// Edits that must fail are no part of what is built.
+/// Edits that must fail and what the prover leaves in `out` are no part of what
+/// is built.
 fn older(path: &Path, than: SystemTime) -> bool {
     match fs::read_dir(path) {
-        Ok(_) if path.ends_with("must-fail") => true,
+        Ok(_) if path.ends_with("must-fail") || path.ends_with("out") => true,
         Ok(entries) => entries.flatten().all(|entry| older(&entry.path(), than)),
         Err(_) => written(path).map_or(false, |at| at < than),
     }
@@ -123,11 +124,7 @@ fn older(path: &Path, than: SystemTime) -> bool {
 
 /// Has the archive made from the sources, which are proved on the way.
 fn make(root: &Path, maker: &Maker) -> Result<(), String> {
-    let program = match maker.program.contains('/') {
-        true => root.join(maker.program),
-        false => PathBuf::from(maker.program),
-    };
-    let run = Command::new(program)
+    let run = Command::new(root.join(maker.program))
         .args(maker.words)
         .current_dir(root)
         .output();

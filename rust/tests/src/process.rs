@@ -9,7 +9,7 @@ use std::process::{Child, Command, Stdio};
 const RUNNER: &str = "CARGO_TARGET_X86_64_UNKNOWN_LINUX_GNU_RUNNER";
 
 /// Where the program `outline` is: what `OUTLINE_PROGRAM` names, or what
-/// `rt check` has left in target/bin.
+/// `tools/build outline` has left in target/bin.
 ///
 /// # Panics
 /// When there is none.
@@ -20,7 +20,7 @@ pub fn program() -> PathBuf {
     };
     assert!(
         program.is_file(),
-        "there is no program at {}: run `rt check` in the repository's root, or name another with OUTLINE_PROGRAM",
+        "there is no program at {}: run `tools/build outline` in the repository's root, or name another with OUTLINE_PROGRAM",
         program.display()
     );
     program

@@ -2,7 +2,7 @@
 //! the vector files and the witness say, byte for byte, for every text.
 //!
 //! The program is the one that `OUTLINE_PROGRAM` names, or the one that
-//! `rt check` has left in target/bin.
+//! `tools/build outline` has left in target/bin.
 
 use std::io::{Read, Write};
 use std::thread::sleep;

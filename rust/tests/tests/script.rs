@@ -23,34 +23,37 @@ const FURNISH: &str = r#"
 set -e
 mkdir -p tools docs crates/{laws,sheet,turns,outline}/{src,must-fail}
 cp "$REPOSITORY/outline" outline
+cp "$REPOSITORY/tools/build" tools/build
 cat >crates.txt <<'END'
 # A line for each crate.
 laws:
 sheet: laws
 turns: laws sheet
-outline: io libc laws sheet
+outline: laws sheet
 END
 for crate in laws sheet turns outline; do
     echo "// $crate" >crates/$crate/src/lib.rt
 done
 cat >tools/rt <<'END'
 #!/bin/sh
+cd "$(dirname "$0")/.."
 echo "$*" >>calls
 mkdir busy || echo "two at once" >>calls
 sleep 0.1
 rmdir busy
 cat says
 [ ! -f fails ] || exit 1
-mkdir -p target/bin
-cp made target/bin/outline
+mkdir -p crates/outline/out
+cp made crates/outline/out/outline
 END
 cat >says <<'END'
 fn laws::choose: proved
-rt: laws proved (3 s)
-rt: sheet proved (unchanged since it was last proved)
-rt: outline proved (17 s)
-rt: outline ran as nobody, and wrote what its file 'stdout' has (1 s)
-rt: ok, 3 crates proved
+crate laws: modules loaded=0 checked=117
+logic=proved functions=2
+library laws: modules loaded=90 checked=0
+crate outline: modules loaded=0 checked=112
+logic=proved functions=6
+rt: running out/outline; to give it other input, run that file yourself
 END
 if [ -n "$STAND_IN" ]; then
     printf '#!/bin/sh\n%s\n' "$STAND_IN" >made
@@ -147,7 +150,7 @@ impl House {
     /// How often rt was called, always in the same way and never twice at once.
     fn calls(&self) -> usize {
         let calls = fs::read_to_string(self.folder.join("calls")).unwrap_or_default();
-        assert!(calls.lines().all(|call| call == "check outline"), "{calls}");
+        assert!(calls.lines().all(|call| call == "run"), "{calls}");
         calls.lines().count()
     }
 
@@ -636,7 +639,7 @@ const FIRST: &str =
     "outline: proving and building the program: 3 to 8 minutes by the machine, more on a busy one; this is done once\n";
 const AGAIN: &str = "outline: the program may be older than its sources: proving and building what has changed, a second to 8 minutes\n";
 const PROGRESS: &str =
-    "outline: crate 1 of 3: laws proved (3 s)\noutline: crate 3 of 3: outline proved (17 s)\n";
+    "outline: crate 1 of 3: laws proved\noutline: crate 3 of 3: outline proved\n";
 
 #[test]
 fn built_once_with_its_progress_shown() {
@@ -693,7 +696,7 @@ fn built_again_where_the_sources_changed() {
 fn a_build_that_fails() {
     let house = House::built("fails", "");
     house.write("sheet.txt", TRIANGLE);
-    let says = "rt: laws NOT PROVED (exit 1, 2 s)\nrt: sheet NOT PROVED: its dependency laws is not proved\nrt: FAILED: laws sheet\n";
+    let says = "crate laws: modules loaded=110 checked=7\nlogic=not-proved\nrt: the library laws did not build, so nothing above it was checked\n";
     let before = house.run("cp says said; cp crates/laws/src/lib.rt kept; touch fails; echo x >>crates/laws/src/lib.rt");
     assert_eq!(before.status, 0);
     house.write("says", says);
@@ -705,8 +708,8 @@ fn a_build_that_fails() {
     let failed = house.run("./outline sheet.txt");
     assert_eq!((failed.output.as_str(), failed.status), ("", 4));
     let wanted = format!(
-        "{AGAIN}outline: crate 1 of 3: laws NOT PROVED (exit 1, 2 s)\noutline: crate 2 of 3: sheet NOT PROVED: its dependency laws is not proved\n\
-         outline: rt: FAILED: laws sheet\noutline: the program could not be built; all that rt said is in {}\n",
+        "{AGAIN}outline: crate 1 of 3: laws NOT PROVED\n\
+         outline: rt: the library laws did not build, so nothing above it was checked\noutline: the program could not be built; all that rt said is in {}\n",
         log.display()
     );
     assert_eq!(failed.errors, wanted);
