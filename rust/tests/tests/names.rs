@@ -162,11 +162,11 @@ fn the_list_is_whole() {
 }
 
 /// Whether what a case is given is asked of what it holds, as `refusal.number()`
-/// or `numberOf r`: it holds another enum's refusal, and is none itself.
+/// or `number_of r`: it holds another enum's refusal, and is none itself.
 fn is_handed_on(given: &str) -> bool {
     let asked = given.split_once('.').map(|(_, asked)| asked);
     let of_another = |what: &str| word(given).ends_with(what) && given.contains(' ');
-    asked == Some("number()") || of_another("umberOf") || of_another("laceOf")
+    asked == Some("number()") || of_another("umber_of") || of_another("lace_of")
 }
 
 /// The engine's enums: the cases of each that has a function `number`, with
@@ -196,7 +196,7 @@ fn in_the_engines_types() {
 }
 
 /// The definitions that give each case its number and its place: lines such as
-/// `numberOf (PastRange e) = 5` and `placeOf (PastRange e) = e`. A name in capitals
+/// `number_of (PastRange e) = 5` and `place_of (PastRange e) = e`. A name in capitals
 /// is a type's, and gives none.
 #[test]
 fn in_the_engines_definitions() {
@@ -204,7 +204,7 @@ fn in_the_engines_definitions() {
     for text in of_every_crate("specs", "antt") {
         for line in text.lines() {
             let (name, rest) = line.split_once(' ').unwrap_or((line, ""));
-            let is = |what: &str| name.ends_with(&format!("{what}Of")) || name.ends_with(what);
+            let is = |what: &str| name.ends_with(&format!("{what}_of")) || name.ends_with(what);
             let case = word(rest.trim_start_matches('(')).to_string();
             let (number, place) = (is("umber"), is("lace"));
             let gives = name.starts_with(char::is_lowercase) && (number || place);
