@@ -16,6 +16,7 @@ abbrev read : ℤ → ℤ
 read z = to_z w32 (of_z w32 z)
 
 module _ (at from to : Point) (requires : (in_range at ≡ true) × (in_range from ≡ true) × (in_range to ≡ true)) where
+  -- the two directions
   abbrev one : Direction
   one = towards at from
 

@@ -49,7 +49,6 @@ numbered P i l e is tails heads Rising = tails ∙ P.tails i l ∙ ap (λ (z : L
 numbered P i l e is tails heads Falling = heads ∙ P.heads i l ∙ ap (λ (z : LevelEdge Place). P.number z.head) (sym is)
 
 -- the edge treated is the sweep's next step, and the index is good again
--- the edge treated is the sweep's next step, and the index is good again
 module _ (rows₀ journal₀ : List ℤ) {edges rows journal rows' journal' : List ℤ} {numbers index counts index' counts' : List ℕ} {n i edge : ℕ} {end end' : End} {e : NamedEdge} where
   treated : (P : PlacesNumbered edges n numbers) → i < n →
       (swept rows journal (record { progress = progress counts end; edge = edge }) ≡ sweep_up (lent_room rows₀ journal₀) (list_edges edges) (start 0 rows₀ journal₀) i) × Indexed P.number index rows counts none →
