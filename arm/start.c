@@ -53,19 +53,6 @@ long __sysv_signal(long signal, long handler)
     return answered(call(ACTION, signal, (long)action, 0, sizeof(unsigned long)));
 }
 
-/* The start asks an x86-64 processor whether it has what its code needs, and complains where it has not. This code is for Arm, and needs none of it. */
-const void *__x86_get_cpuid_feature_leaf(int leaf)
-{
-    static const unsigned all[16] = {~0u, ~0u, ~0u, ~0u, ~0u, ~0u, ~0u, ~0u, ~0u, ~0u, ~0u, ~0u, ~0u, ~0u, ~0u, ~0u};
-    (void)leaf;
-    return all;
-}
-
-long __write(int file, const void *bytes, size count)
-{
-    return write(file, bytes, count);
-}
-
 void *memset(void *to, int byte, size count)
 {
     unsigned char *t = to;
