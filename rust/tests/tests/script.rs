@@ -150,7 +150,10 @@ impl House {
     /// How often rt was called, always in the same way and never twice at once.
     fn calls(&self) -> usize {
         let calls = fs::read_to_string(self.folder.join("calls")).unwrap_or_default();
-        assert!(calls.lines().all(|call| call == "run --cpu x86-64"), "{calls}");
+        assert!(
+            calls.lines().all(|call| call == "run --cpu x86-64"),
+            "{calls}"
+        );
         calls.lines().count()
     }
 
