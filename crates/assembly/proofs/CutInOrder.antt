@@ -25,7 +25,7 @@ use Rattle.sheet.proofs.Places.{place-parts}
 use Rattle.sheet.proofs.Outlines.{outline-shares, shares-outline}
 use Rattle.sheet.proofs.ExactlyAccepted.{accepts-exactly}
 use Rattle.checks.proofs.Passed.{AllPassed}
-use Rattle.hartley.proofs.results.TurnsFollow.{sequence-below, sequence-met, last-to-first, turns-follow}
+use Rattle.hartley.proofs.Results.TurnsFollow.{sequence-below, sequence-met, last-to-first, turns-follow}
 use Rattle.turns.proofs.OneTurnList.{every-edge, edge_once}
 use Rattle.assembly.specs.Assembled.{CutInOrder}
 

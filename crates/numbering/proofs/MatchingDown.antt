@@ -14,7 +14,7 @@ use Rattle.steps.specs.SweepDown.{Pair}
 use Rattle.steps.specs.Plain.{put, plain_tables}
 use Rattle.steps.proofs.AlikeDown.{Holding, MatchDown}
 use Rattle.steps.specs.SweepDown.{natural_part}
-use Rattle.hartley.proofs.results.NumbersFit.{Fits}
+use Rattle.hartley.proofs.Results.NumbersFit.{Fits}
 use Rattle.sweep.specs.Lookup.{Answers, numbers_in, given_in, answered_in, tables}
 use Rattle.sweep.proofs.Given.{length-given, given-here, given-elsewhere}
 use Rattle.sheet.specs.Amounts.{most_edges}

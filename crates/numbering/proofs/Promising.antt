@@ -28,7 +28,7 @@ use Rattle.steps.specs.Rows.{record_numbers}
 use Rattle.steps.specs.SweepDown.{natural_part}
 use Rattle.steps.specs.Swept.{rows_in, read_down, LacksRow, LacksItself}
 use Rattle.steps.proofs.Reaching.{SameRun}
-use Rattle.hartley.proofs.results.Results as results
+use Rattle.hartley.proofs.Results.Results as results
 use Rattle.numbering.specs.Outcome.{Lent, Left, call_of, up, down, answer_by, leaves, outcome, left_as}
 use Rattle.numbering.specs.Promised.{Promised, RowsEnough, fewer_rows, with_other_rows}
 use Rattle.numbering.proofs.Leaving.{never-ten}

@@ -30,7 +30,7 @@ use Rattle.steps.proofs.AlikeDown.{MatchDown, AlikeReading, down-alike}
 use Rattle.journal.specs.Layout.{record_slice, records_in}
 use Rattle.sweep.specs.Slices.{room, list_edges}
 use Rattle.sweep.specs.Lookup.{numbers_in, tables, reading}
-use Rattle.hartley.proofs.results.Results as results
+use Rattle.hartley.proofs.Results.Results as results
 use Rattle.numbering.specs.Outcome.{Lent, call_of, left_as, up, down, answer_by, leaves, outcome}
 use Rattle.numbering.specs.OnSlices as slices
 use Rattle.numbering.specs.OnSlices.{in_journal, whole_journal, after_sweep, sweeps_on}

@@ -110,14 +110,14 @@ module _ (a b : List ℤ) (index c : List ℕ) (left level : ℕ) (e : NamedEdge
   abbrev wanted : Want
   wanted = up.treat (lent_room a b) left level (state a b (progress c Done)) (edge_of e)
 
-  abbrev right : (Place → ℕ) → Type 0
-  right number = Numbered number index c e
+  abbrev Right : (Place → ℕ) → Type 0
+  Right number = Numbered number index c e
 
   steps : wanted ≡ up.steps_on (lent_room a b) (up.treat (lent_room a b) (left - 1) (level + 1)) (state a b (progress c Done)) level side (edge_of e)
   steps = treat-steps a b left level (progress c Done) e side differ some_left side-is
 
   -- no row is free
-  pub no_row : rows_in a ≤ r → Treated right (slices a b index c) (slices a₁ b index₁ c₁) NoFreeRow wanted
+  pub no_row : rows_in a ≤ r → Treated Right (slices a b index c) (slices a₁ b index₁ c₁) NoFreeRow wanted
   no_row full = record {
     grows = C.grows;
     told = λ number G N. (sym (steps ∙ C.ends number G N b (up.treat (lent_room a b) (left - 1) (level + 1)) full), λ d. absurd (not_done {t = NoFreeRow} refl d));
@@ -147,7 +147,7 @@ module _ (a b : List ℤ) (index c : List ℕ) (left level : ℕ) (e : NamedEdge
     grows₂ : peak_in c ≤ peak_in c₂
     grows₂ = omega (arith, C.grows, A.peak)
 
-    pub stopped : is_done t ≡ false → Treated right (slices a b index c) (slices a₂ b₂ index₂ c₂) t wanted
+    pub stopped : is_done t ≡ false → Treated Right (slices a b index c) (slices a₂ b₂ index₂ c₂) t wanted
     stopped d = record {
       grows = grows₂;
       told = λ number G N. (row-stopped a₁ b (left - 1) level (progress c₁ Done) (level + 1) side e r attached d ∙ sym (goes_on number G N), λ f. absurd (not_done {t = t} d f));
@@ -166,7 +166,7 @@ module _ (a b : List ℤ) (index c : List ℕ) (left level : ℕ) (e : NamedEdge
       tip = A.tip (is-done-is t done) film ∙ (rw (top_is, other-is))
 
       -- nothing meets it: the tip is marked
-      pub unmet : f ≡ Nothing → {index₃ : List ℕ} → index₃ ≡ marked_in a₂ index₂ level side k r → Treated right (slices a b index c) (slices a₂ b₂ index₃ c₂) Done wanted
+      pub unmet : f ≡ Nothing → {index₃ : List ℕ} → index₃ ≡ marked_in a₂ index₂ level side k r → Treated Right (slices a b index c) (slices a₂ b₂ index₃ c₂) Done wanted
       unmet None-found {index₃} marked = record {
         grows = grows₂;
         told = λ number G N. (
@@ -194,7 +194,7 @@ module _ (a b : List ℤ) (index c : List ℕ) (left level : ℕ) (e : NamedEdge
 
         pub met-both : {after : Slices} {u : End} →
             Treated (λ number. (q < peak_in c₂) × (r < peak_in c₂)) (slices a₄ b₂ index₂ c₂) after u (up.pass_both (lent_room a₄ b₂) (up.treat (lent_room a₄ b₂) (left - 1) (level + 1)) (state a₄ b₂ (progress c₂ Done)) q r) →
-            Treated right (slices a b index c) after u wanted
+            Treated Right (slices a b index c) after u wanted
         met-both {after} {u} T = record {
           grows = omega (arith, grows₂, T.grows);
           told = λ number G N.

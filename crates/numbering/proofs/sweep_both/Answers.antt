@@ -29,7 +29,9 @@ pub overflow_cast-result-2 : goal.overflow_cast-result-2
 unfolding swept_up edges_in
 overflow_cast-result-2 c = let a = c.args in
     let l = fitted a.edges.now a.polygons.now a.sequences.now a.journal.now a.rows.now in
-    record { fits = omega (arith, leaving.count_fits l c.sweep_up-swept.ensures.result_after c.journal-1.given (is-done-end _ (sym c.is_done.ensures ∙ c.if-not-is_done.false)) c.sweep_up-swept.ensures.records_in_bounds c.sweep_down-count.ensures, ap (λ w. w.state.records) c.sweep_up-swept.ensures.result_after, leaving.records-fit l c.requires.lengths.0 c.requires.lengths.1) }
+    let d = is-done-end _ (sym c.is_done.ensures ∙ c.if-not-is_done.false) in
+    let count = leaving.count_fits l c.sweep_up-swept.ensures.result_after c.journal-1.given d c.sweep_up-swept.ensures.records_in_bounds c.sweep_down-count.ensures in
+    record { fits = omega (arith, count, ap (λ w. w.state.records) c.sweep_up-swept.ensures.result_after, leaving.records-fit l c.requires.lengths.0 c.requires.lengths.1) }
 
 pub overflow_cast-result-3 : goal.overflow_cast-result-3
 unfolding swept_up edges_in

@@ -20,8 +20,11 @@ pub bounds-numbers-edge_of : goal.bounds-numbers-edge_of
 bounds-numbers-edge_of c = omega (arith, c.arrival_of.ensures, c.edge_of.ensures, c.loop-k.invariant.2.size)
 
 pub loop-k-preserved : goal.loop-k-preserved
-loop-k-preserved c = let number = half-start c.requires.words.0 c.loop-k.invariant.1 c.loop-k-test.true c.place_of-here.ensures c.choose-first.ensures in
-    (search rules, begun_more c.requires.words.0 c.loop-k.invariant.1 c.loop-k-test.true c.place_of-here.ensures c.choose-first.ensures, numbers_more (omega (arith, c.requires.words.0.few)) c.requires.words.1 c.loop-k.invariant.2 c.loop-k-test.true (rw (c.edge_of.ensures, c.arrival_of.ensures)) number)
+loop-k-preserved c = let number = half-start c.requires.words.0 c.loop-k.invariant.1 c.loop-k-test.true c.place_of-here.ensures c.choose-first.ensures in (
+  search rules,
+  begun_more c.requires.words.0 c.loop-k.invariant.1 c.loop-k-test.true c.place_of-here.ensures c.choose-first.ensures,
+  numbers_more (omega (arith, c.requires.words.0.few)) c.requires.words.1 c.loop-k.invariant.2 c.loop-k-test.true (rw (c.edge_of.ensures, c.arrival_of.ensures)) number,
+)
 
 pub shape_of-numbers : goal.shape_of-numbers
 shape_of-numbers c = omega (arith, c.loop-k.invariant.2.size, ap length c.requires.numbers, length-replicate {A = ℕ} (2 * most_edges) 0)

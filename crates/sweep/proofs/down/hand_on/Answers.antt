@@ -8,12 +8,17 @@ use Rattle.sweep.proofs.down.hand_on.Goals as goal
 pub returns-then-level_at-eq0 : goal.returns-then-level_at-eq0
 returns-then-level_at-eq0 c = let g = c.args in
     let polygon = rw (c.name_at-name.ensures.0, c.polygon_of-polygon.ensures.0) at c.answer.ensures in
-    let sequence = rw (c.name_at-name.ensures.0, c.natural_sum.ensures, read_back c.sequence_of-sequence.result c.sequence_of-sequence.type_inv, read_back c.offset_at-offset.result c.offset_at-offset.type_inv, c.sequence_of-sequence.ensures, c.offset_at-offset.ensures) at c.answer-then-level_at-eq0.ensures in
+    let given = read_back c.sequence_of-sequence.result c.sequence_of-sequence.type_inv in
+    let offset = read_back c.offset_at-offset.result c.offset_at-offset.type_inv in
+    let sequence = rw (c.name_at-name.ensures.0, c.natural_sum.ensures, given, offset, c.sequence_of-sequence.ensures, c.offset_at-offset.ensures) at c.answer-then-level_at-eq0.ensures in
     λ n. read_answer g.rows.now g.polygons.now g.sequences.now n (record_at g.journal.now g.k) g.r
     (sym c.level_at.ensures ∙ c.if-level_at-eq0.true) polygon sequence
 
 pub returns-else-level_at-eq0 : goal.returns-else-level_at-eq0
 returns-else-level_at-eq0 c = let g = c.args in
-    let value = rw (read_back c.narrow_sum.result c.narrow_sum.type_inv, c.narrow_sum.ensures, read_back c.sequence_of-sequence.result c.sequence_of-sequence.type_inv, read_back c.offset_at-offset.result c.offset_at-offset.type_inv, c.sequence_of-sequence.ensures, c.offset_at-offset.ensures) at c.give.ensures in
+    let sum = read_back c.narrow_sum.result c.narrow_sum.type_inv in
+    let given = read_back c.sequence_of-sequence.result c.sequence_of-sequence.type_inv in
+    let offset = read_back c.offset_at-offset.result c.offset_at-offset.type_inv in
+    let value = rw (sum, c.narrow_sum.ensures, given, offset, c.sequence_of-sequence.ensures, c.offset_at-offset.ensures) at c.give.ensures in
     λ n. read-given g.rows.now g.polygons.now g.sequences.now n (record_at g.journal.now g.k) g.r
     (λ e. c.if-level_at-eq0.false (c.level_at.ensures ∙ e)) (rw (c.name_at-name.ensures.0, c.polygon_of-polygon.ensures.0) at value)

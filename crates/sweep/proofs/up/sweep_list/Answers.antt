@@ -96,15 +96,29 @@ bounds-counts-1 c = omega (arith, c.treat_first-end.auto, c.loop-i.invariant.4, 
 pub returns-then-not-is_done : goal.returns-then-not-is_done
 returns-then-not-is_done c = let g = c.args in
     let w : Swept = record { progress = progress c.treat_first-end.new.counts c.treat_first-end.result; edge = c.loop-i.i } in
+    let places = c.requires.numbers.1 in
+    let edge =
+    treated g.rows.now g.journal.now places c.loop-i-test.true (c.loop-i.invariant.6 places) c.loop-i.invariant.1 c.loop-i.invariant.2 c.loop-i.invariant.5
+    c.list_edge-next.ensures.0 c.list_edge-next.ensures.2 c.list_edge-next.ensures.3 c.treat_first-end.ensures in
     let e =
-    sweep-stays g.rows.now g.journal.now (list_edges g.edges.now) g.n (c.loop-i.i + 1) {w = w} (omega (arith, c.loop-i-test.true)) (treated g.rows.now g.journal.now c.requires.numbers.1 c.loop-i-test.true (c.loop-i.invariant.6 c.requires.numbers.1) c.loop-i.invariant.1 c.loop-i.invariant.2 c.loop-i.invariant.5 c.list_edge-next.ensures.0 c.list_edge-next.ensures.2 c.list_edge-next.ensures.3 c.treat_first-end.ensures).0
+    sweep-stays g.rows.now g.journal.now (list_edges g.edges.now) g.n (c.loop-i.i + 1) {w = w} (omega (arith, c.loop-i-test.true)) edge.0
     (sym c.is_done.ensures ∙ c.if-not-is_done.true) in
     rw c.swept.ensures (record { result_after = e; records_in_bounds = records-there g.rows.now g.journal.now (list_edges g.edges.now) g.n w e })
 
 pub loop-i-preserved : goal.loop-i-preserved
 loop-i-preserved c = let done = sym c.is_done.ensures ∙ c.if-not-is_done.false in
     let is = is-done-is c.treat_first-end.result done in
-    (omega (arith, c.loop-i-test.true), omega (arith, c.loop-i.invariant.1, c.treat_first-end.auto), omega (arith, c.loop-i.invariant.2, c.treat_first-end.auto), omega (arith, c.loop-i.invariant.3, c.treat_first-end.auto), omega (arith, c.loop-i.invariant.4, c.treat_first-end.auto), is, λ P. (let t = treated c.args.rows.now c.args.journal.now P c.loop-i-test.true (c.loop-i.invariant.6 P) c.loop-i.invariant.1 c.loop-i.invariant.2 c.loop-i.invariant.5 c.list_edge-next.ensures.0 c.list_edge-next.ensures.2 c.list_edge-next.ensures.3 c.treat_first-end.ensures in (t.0, t.1 is)))
+    let edge = λ (P : PlacesNumbered c.args.edges.now c.args.n c.args.numbers.now).
+    treated c.args.rows.now c.args.journal.now P c.loop-i-test.true (c.loop-i.invariant.6 P) c.loop-i.invariant.1 c.loop-i.invariant.2 c.loop-i.invariant.5
+    c.list_edge-next.ensures.0 c.list_edge-next.ensures.2 c.list_edge-next.ensures.3 c.treat_first-end.ensures in (
+      omega (arith, c.loop-i-test.true),
+      omega (arith, c.loop-i.invariant.1, c.treat_first-end.auto),
+      omega (arith, c.loop-i.invariant.2, c.treat_first-end.auto),
+      omega (arith, c.loop-i.invariant.3, c.treat_first-end.auto),
+      omega (arith, c.loop-i.invariant.4, c.treat_first-end.auto),
+      is,
+      λ P. ((edge P).0, (edge P).1 is),
+    )
 
 pub bounds-counts-0-2 : goal.bounds-counts-0-2
 bounds-counts-0-2 c = omega (arith, c.loop-i.invariant.4, c.requires.counts.0)
