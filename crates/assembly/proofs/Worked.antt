@@ -1,5 +1,6 @@
 -- The turn list of 01's touching sheet, to the last number: polygon 1 has the edges 6, 2, 5 and polygon 2 the edges 4, 0, 1, 3, each in sequence order.
 -- It is a turn list of the numbers that the numbering's table has for that sheet, and they have only one.
+use Rattle.std.specs.Prelude.{Result}
 use mathlib.Core.Path.{◌≡◌, refl, ap, ◌∙◌}
 use mathlib.Core.List.{List, [], ◌∷◌}
 use mathlib.Core.Logic.{inl, inr}
@@ -8,13 +9,14 @@ use native.Mathlib.Omega.{arith}
 use lib.ListN.{get_or}
 use Rattle.laws.specs.Counting.{largest}
 use Rattle.laws.proofs.Largest.{largest-bound}
-use Rattle.sheet.specs.declared.Answer.{Answer}
 use Rattle.sheet.specs.TurnList.{NumberLists, number_lists, Before, TurnList}
 use Rattle.numbering.specs.Outcome.{Left}
 use Rattle.numbering.proofs.Worked.{lent_for, two-touching, all-worked}
 use Rattle.turns.proofs.Neighbours.{neighbours-turn-list}
 use Rattle.turns.proofs.OneTurnList.{one-turn-list}
 use Rattle.assembly.specs.Assembled.{Assembled}
+use Rattle.sheet.specs.declared.Numbered.{Numbered}
+use Rattle.sheet.specs.declared.Refusal.{Refusal}
 
 abbrev touching_numbers : NumberLists
 touching_numbers = number_lists (2 ∷ 2 ∷ 1 ∷ 2 ∷ 2 ∷ 1 ∷ 1 ∷ []) (1 ∷ 2 ∷ 1 ∷ 3 ∷ 0 ∷ 2 ∷ 0 ∷ [])
@@ -41,7 +43,7 @@ unfolding number_lists
 touching-turn-list = neighbours-turn-list touching_numbers touching_turns refl places next
 
 -- Whoever keeps the promise of the one call leaves this list: not one with the outlines in another order, nor one with an outline begun at another edge.
-pub touching-turns : {before after : List ℕ} {x : Left Answer} → Assembled (lent_for two-touching) before x after → after ≡ touching_turns
+pub touching-turns : {before after : List ℕ} {x : Left (Result Numbered Refusal)} → Assembled (lent_for two-touching) before x after → after ≡ touching_turns
 touching-turns a =
     let k = a.numbered.outcome_is in
     let cut = a.accepted 2 3 11 (ap (λ x. x.answer) k ∙ all-worked.of_touching) in

@@ -7,7 +7,8 @@ use mathlib.Core.Logic.{⊎_elim}
 use Prim.Native.Nat.{ℕ, ◌+◌, ◌-◌, ◌*◌, ◌/◌, ◌<◌, ◌≤◌}
 use native.Mathlib.Omega.{arith}
 use lib.Dec.{eqb, ltb}
-use lib.IntN.{ℤ}
+use lib.IntN.{ℤ, pos}
+use lib.Signed.{lt_z}
 use lib.ListN.{get_or}
 use mir.Syntax.{w64}
 use mir.Val.{to_z, of_z}
@@ -16,7 +17,7 @@ use borrow.Author.Tests.{lt-ltb, le-ltb, eq-eqb}
 use Rattle.laws.proofs.Deciding.{lt-or-le}
 use Rattle.laws.proofs.Tests.{and-true, and-false}
 use Rattle.sheet.specs.Points.{is_below}
-use Rattle.sheet.specs.Turning.{Sign, plus, is_sign, cross, turn}
+use Rattle.sheet.specs.Turning.{Sign, plus, sign, is_sign, cross, turn}
 use Rattle.sheet.specs.Edges.{edge_at, drawing_of}
 use Rattle.sheet.specs.Kinds.{Way, arriving, leaving, other_way, From, below, above, end_of, comes, number_at}
 use Rattle.sheet.specs.Corners.{along, four, of_kind, corner_at, alternate, apart}
@@ -25,6 +26,7 @@ use Rattle.sheet.specs.Answers.{tangled}
 use Rattle.sheet.proofs.Places.{place-below, place-parts}
 use Rattle.sheet.proofs.AtAPlace.{same_true, of-kind, kind-there, two-each}
 use Rattle.corner.specs.Turns.{alike}
+use Rattle.corner.proofs.SameTurn.{above-0}
 use Rattle.corner.proofs.Sides.{side, side_of, Sided}
 use Rattle.corner.proofs.SidesOfPoints.{side-below, side-above}
 use Rattle.corner.proofs.Corners.{alternate-is, apart-is}
@@ -158,6 +160,12 @@ module _ {s : List ℤ} {n : ℕ} (E : EndsFit s n) {e f : ℕ} (l : e < n) (m :
   unfolding drawing_of
   turn-kept = to_z-of_z w64 _ (cross-fits _ _ (near _ _ (head_in E e l) (tail-in E e l)) (near _ _ (tail-in E f m) (head_in E f m)))
 
+-- a turn's sign as the code computes it
+module _ {s : List ℤ} {n : ℕ} (E : EndsFit s n) {i j : ℕ} {low : ℤ} (p : low ≡ cross ((drawing_of s).back i) ((drawing_of s).ahead j)) (below : (i < n) × (j < n) × ((drawing_of s).tail j ≡ (drawing_of s).head i)) where
+  kept : sign (to_z w64 (of_z w64 low)) ≡ turn_in s i j
+  unfolding turn
+  kept = rw (p, turn-kept E below.0 below.1 below.2)
+
 -- an edge's direction from a place lies on the side that it comes from
 module _ {s : List ℤ} {n : ℕ} (E : EndsFit s n) (e : ℕ) (l : e < n) where
   along-side : (w : Way) → side (along (drawing_of s) w e) ≡ side_of (comes (drawing_of s) w e)
@@ -191,11 +199,20 @@ abbrev pub high_turn : List ℤ → List ℕ → ℕ → Sign
 high_turn s words a = turn_in s (edge_in words (a + 2)) (edge_in words a)
 
 -- what is told of the turns between four edges that were read
-pub alternate-told : (s : List ℤ) (words : List ℕ) (a : ℕ) {i j k l : ℕ} {r : Bool} → i ≡ edge_in words (a + 3) → j ≡ edge_in words (a + 1) → k ≡ edge_in words (a + 2) → l ≡ edge_in words a → r ≡ alike (turn_in s i j) (turn_in s k l) → alike (low_turn s words a) (high_turn s words a) ≡ r
-alternate-told s words a p q u v h = (λ i. alike (turn_in s (sym p i) (sym q i)) (turn_in s (sym u i) (sym v i))) ∙ sym h
+module _ {s : List ℤ} {words : List ℕ} {n a : ℕ} (S : SoundEnds s words n) (P : AtPlace words (2 * n) a (a + 4)) {i j : ℕ} (first : i ≡ edge_in words (a + 3)) (second : j ≡ edge_in words (a + 1)) where
+  pub below-met : (i < n) × (j < n) × ((drawing_of s).tail j ≡ (drawing_of s).head i)
+  below-met = let b = meets-below S P in rw (first, second) b
 
-pub parts-told : (s : List ℤ) (words : List ℕ) (a : ℕ) {i j : ℕ} {r : Bool} → i ≡ edge_in words (a + 3) → j ≡ edge_in words (a + 1) → r ≡ is_sign (turn_in s i j) plus → is_sign (low_turn s words a) plus ≡ r
-parts-told s words a p q h = (λ i. is_sign (turn_in s (sym p i) (sym q i)) plus) ∙ sym h
+  module _ {k l : ℕ} (third : k ≡ edge_in words (a + 2)) (fourth : l ≡ edge_in words a) where
+    pub above-met : (k < n) × (l < n) × ((drawing_of s).tail l ≡ (drawing_of s).head k)
+    above-met = let u = meets-above S P in rw (third, fourth) u
+
+    pub turns-told : {low high : ℤ} {r : Bool} → low ≡ cross ((drawing_of s).back i) ((drawing_of s).ahead j) → high ≡ cross ((drawing_of s).back k) ((drawing_of s).ahead l) → r ≡ alike (sign (to_z w64 (of_z w64 low))) (sign (to_z w64 (of_z w64 high)))
+        → (alike (low_turn s words a) (high_turn s words a) ≡ r) × (is_sign (low_turn s words a) plus ≡ lt_z (pos 0) (to_z w64 (of_z w64 low)))
+    turns-told p q h =
+        let low-kept = (λ x. turn_in s (sym first x) (sym second x)) ∙ sym (kept S.fit p below-met) in
+        let high-kept = (λ x. turn_in s (sym third x) (sym fourth x)) ∙ sym (kept S.fit q above-met) in
+        ((λ x. alike (low-kept x) (high-kept x)) ∙ sym h, ap (λ (t : Sign). is_sign t plus) low-kept ∙ sym (above-0 _))
 
 module _ {s : List ℤ} {words : List ℕ} {n a : ℕ} (S : SoundEnds s words n) (P : AtPlace words (2 * n) a (a + 4)) where
   is-corner : (w : Way) (c : From) → corner_at (drawing_of s) (place_in words a) w c ≡ along (drawing_of s) w (edge_in words (a + kind_number w c))

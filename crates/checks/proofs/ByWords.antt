@@ -1,6 +1,6 @@
 -- 8, 9 and 17 by the words of the ends in order. An end has the key of the end before where an earlier edge is of its kind at its place; and at a place
 -- as many ends arrive as edges do. So the least edges that the walk finds are the first edges that the answer sheet asks for.
-use mathlib.Core.Path.{◌≡◌, refl, sym, ap, ◌∙◌}
+use mathlib.Core.Path.{◌≡◌, refl, sym, ap, ◌∙◌, subst}
 use mathlib.Core.Bool.{Bool, true, not, ◌&&◌, ◌||◌}
 use mathlib.Core.List.{List}
 use mathlib.Core.Logic.{⊎_elim}
@@ -10,7 +10,8 @@ use lib.Dec.{eqb, ltb}
 use lib.IntN.{ℤ}
 use lib.ListN.{length, get_or}
 use borrow.Author.Tests.{lt-ltb, ltb-true, eq-eqb, ne_eqb, eqb-true, eqb-false}
-use Rattle.laws.specs.Counting.{count, first}
+use Rattle.std.specs.Prelude.{Option}
+use Rattle.laws.specs.Counting.{count, IsFirst}
 use Rattle.laws.proofs.Deciding.{lt-or-le, not-both, both_true, true-both, one-true}
 use Rattle.laws.proofs.Tests.{not-true, or-true}
 use Rattle.laws.proofs.First.{some-below-true, below-some}
@@ -21,7 +22,7 @@ use Rattle.sheet.specs.Answers.{same_kind, repeats, differ, uneven, tangled, not
 use Rattle.checks.specs.declared.places.AtFault.{AtFault}
 use Rattle.ends.specs.Fitting.{EndsFit}
 use Rattle.ends.specs.Ends.{way_number, from_number, word_of, key_in, place_in, edge_in, arrives_in, Ordered}
-use Rattle.checks.specs.Places.{Walks, repeats_in, uneven_at, Least, FoundSoFar, first_at_fault}
+use Rattle.checks.specs.Places.{Walks, repeats_in, uneven_at, Least, FoundSoFar, FirstAtFault}
 use Rattle.checks.specs.Corners.{tangled_in}
 use Rattle.checks.proofs.LeastEdge.{least_first, least-same}
 use Rattle.ends.proofs.Words.{from-small, way-small, word-edge, word-key, word-place, word-way}
@@ -127,6 +128,9 @@ module _ {s : List ℤ} {words : List ℕ} {n : ℕ} (E : EndsFit s n) (O : Orde
   pub edge-told : (w : Way) (e k : ℕ) → e < n → get_or words k 0 ≡ word_of s w e → edge_in words k ≡ e
   edge-told w e k l q = ap (λ (x : ℕ). x % 4096) q ∙ word-edge s w e (small l)
 
+  small-edge : (k : ℕ) → k < 2 * n → edge_in words k < n
+  small-edge k l = let h = O.held k l in omega (arith, edge-told h.way h.edge k h.is_edge h.told, h.is_edge)
+
   -- a test of places: the ends whose places pass it are those of the edges with an end at such a place
   module _ (test : ℕ → Bool) where
     at_end : ℕ → Bool
@@ -145,8 +149,8 @@ module _ {s : List ℤ} {words : List ℕ} {n : ℕ} (E : EndsFit s n) (O : Orde
         end : (w : Way) → test (end_of (drawing_of s) w e) ≡ true → (k : ℕ) × (k < 2 * n) × (test (place_in words k) ≡ true) × (edge_in words k ≡ e)
         end w h = let v = O.stands w e l in (v.0, v.1, ap test (place-told w e v.0 l v.2) ∙ h, edge-told w e v.0 l v.2)
 
-    first-at-end : {r : ℕ} → Least (λ k. test (place_in words k)) (edge_in words) n 0 (2 * n) r → r ≡ first at_end (edges_in s)
-    first-at-end least = least_first at_end ends-to ends-from least ∙ ap (first at_end) E.all
+    first-at-end : (r : Option ℕ) → Least (λ k. test (place_in words k)) (edge_in words) 0 (2 * n) r → IsFirst at_end (edges_in s) r
+    first-at-end r least = subst (λ (n : ℕ). IsFirst at_end n r) E.all (least_first at_end small-edge ends-to ends-from r least)
 
   -- 8: ends of one key are of edges of one kind at one place, and of no others
   pub key-way : (v w : Way) (f e : ℕ) → f < n → e < n → word_of s v f / 4096 ≡ word_of s w e / 4096 → v ≡ w
@@ -195,17 +199,14 @@ module _ {s : List ℤ} {words : List ℕ} {n : ℕ} (E : EndsFit s n) (O : Orde
           let same : key_in words (i.0 - 1) ≡ key_in words i.0 = omega (arith, keys, rises j.0 (i.0 - 1) (omega arith) (omega (arith, i.1)), rises (i.0 - 1) i.0 (omega arith) i.1) in
           (i.0, i.1, true-both (lt-ltb 0 i.0 (omega arith)) (eq-eqb (key_in words (i.0 - 1)) (key_in words i.0) same), edge-told w e i.0 l i.2)
 
-  pub found_first : {f : AtFault} → FoundSoFar words (2 * n) n (2 * n) f → f ≡ first_at_fault s
-  unfolding first_at_fault uneven at_end
-  found_first {f} F = λ i. record { repeated = repeated i; uneven = uneven-edge i }
-    where
-      repeated : f.repeated ≡ first (repeats (drawing_of s)) (edges_in s)
-      repeated = least_first (repeats (drawing_of s)) repeats-to repeats-from F.repeated ∙ ap (first (repeats (drawing_of s))) E.all
-
-      uneven-edge : f.uneven ≡ first (uneven (drawing_of s)) (edges_in s)
-      uneven-edge = first-at-end (differ (drawing_of s)) (least-same _ (λ k l h. sym (uneven-told k)) F.uneven)
+  pub found_first : {f : AtFault} → FoundSoFar words (2 * n) (2 * n) f → FirstAtFault s f
+  unfolding uneven at_end
+  found_first {f} F = record {
+    repeated = subst (λ (n : ℕ). IsFirst (repeats (drawing_of s)) n f.repeated) E.all (least_first (repeats (drawing_of s)) small-edge repeats-to repeats-from f.repeated F.repeated);
+    uneven = first-at-end (differ (drawing_of s)) f.uneven (least-same _ f.uneven (λ k l h. sym (uneven-told k)) F.uneven);
+  }
 
   -- 17: the least edge with an end at such a place
-  pub tangle-first : {r : ℕ} → Least (tangled_in s words) (edge_in words) n 0 (2 * n) r → r ≡ first (not_alternating (drawing_of s)) (edges_in s)
+  pub tangle-first : (r : Option ℕ) → Least (tangled_in s words) (edge_in words) 0 (2 * n) r → IsFirst (not_alternating (drawing_of s)) (edges_in s) r
   unfolding tangled_in not_alternating at_end
-  tangle-first least = first-at-end (tangled (drawing_of s)) least
+  tangle-first r least = first-at-end (tangled (drawing_of s)) r least

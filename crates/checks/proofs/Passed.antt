@@ -1,5 +1,6 @@
 -- What every later step goes by: a call that passes the eleven checks has its lists of the right lengths, every end and film in the range, and a checked
 -- sheet. Each field of `Checked` is one of 5 to 9, 16 or 17 that was not given; a place is told by its height and its film.
+use Rattle.std.specs.Prelude.{Ok}
 use mathlib.Core.Path.{◌≡◌, sym, ap, ◌∙◌}
 use mathlib.Core.Bool.{true, false, ◌&&◌}
 use mathlib.Core.List.{List}
@@ -13,7 +14,6 @@ use borrow.Author.Tests.{ltb-false, eqb-true, eq-eqb}
 use Rattle.laws.proofs.Deciding.{not-both, both_true, neither-true}
 use Rattle.laws.proofs.Tests.{not-false}
 use Rattle.laws.proofs.Searching.{NoneBelow}
-use Rattle.sheet.specs.declared.Check.TheVariants.{Passed}
 use Rattle.sheet.specs.Points.{in_range, is_film, top_of}
 use Rattle.sheet.specs.Rank.{rank}
 use Rattle.sheet.specs.Edges.{edge_at, edges_in, drawing_of, top_height}
@@ -122,7 +122,7 @@ module _ (c : Call) (l : LengthsFit c) where
   unfolding journal_short
   long = ltb-false _ _ l.long
 
-all-passed : (c : Call) → Row c Passed → AllPassed c
+all-passed : (c : Call) → Row c (Ok tt) → AllPassed c
 all-passed c (no_row p a) =
     let l = p.lengths in
     let E = ends-fit c.list (few c l) p.edges in
@@ -140,19 +140,19 @@ all-passed c (no_row p a) =
       sheet = sheet-checked c (few c l) p a;
     }
 
-pub passed : (c : Call) → checked c ≡ Passed → AllPassed c
-passed c q = all-passed c ((exactly c Passed).0 q)
+pub passed : (c : Call) → checked c ≡ Ok tt → AllPassed c
+passed c q = all-passed c ((exactly c (Ok tt)).0 q)
 
 -- 02 M-104 for every call that passes: the joining rule is the theory's, an edge goes on on its own side if it can and at a place that is apart on the other one ..
-pub rule-by-sides : (c : Call) → checked c ≡ Passed → (e f : ℕ) → Follows (drawing_of c.list) e f ↔ OnSide (drawing_of c.list) e f
+pub rule-by-sides : (c : Call) → checked c ≡ Ok tt → (e f : ℕ) → Follows (drawing_of c.list) e f ↔ OnSide (drawing_of c.list) e f
 rule-by-sides c q e f = let K = (passed c q).sheet in (by_side_lem K.sound K.turning e f, by-turning K.sound K.turning e f)
 
 -- .. and a place with four edges is apart where one turns anticlockwise from the way that its lower arriving edge came to its lower leaving one
-pub apart-by-turn : (c : Call) → checked c ≡ Passed → (p : ℕ) → four (drawing_of c.list) p ≡ true → apart (drawing_of c.list) p ≡ is_sign (turn (corner_at (drawing_of c.list) p arriving below) (corner_at (drawing_of c.list) p leaving below)) plus
+pub apart-by-turn : (c : Call) → checked c ≡ Ok tt → (p : ℕ) → four (drawing_of c.list) p ≡ true → apart (drawing_of c.list) p ≡ is_sign (turn (corner_at (drawing_of c.list) p arriving below) (corner_at (drawing_of c.list) p leaving below)) plus
 unfolding apart
-apart-by-turn c q p whole = by ((exactly c Passed).0 q)
+apart-by-turn c q p whole = by ((exactly c (Ok tt)).0 q)
   where
-    by : Row c Passed → (four (drawing_of c.list) p && lower_apart (corner_at (drawing_of c.list) p)) ≡ is_sign (turn (corner_at (drawing_of c.list) p arriving below) (corner_at (drawing_of c.list) p leaving below)) plus
+    by : Row c (Ok tt) → (four (drawing_of c.list) p && lower_apart (corner_at (drawing_of c.list) p)) ≡ is_sign (turn (corner_at (drawing_of c.list) p arriving below) (corner_at (drawing_of c.list) p leaving below)) plus
     by (no_row r none) =
         let E = ends-fit c.list (few c r.lengths) r.edges in
         let S = sound-list c.list r.once r.level in

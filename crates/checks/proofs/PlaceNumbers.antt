@@ -1,6 +1,7 @@
 -- The walk that numbers places: the ends of a place begin where the place changes, and every end of the list stands once in order, so each gets the number of
 -- its place and nothing is written over it.
-use mathlib.Core.Path.{◌≡◌, refl, sym, ap, ◌∙◌}
+use Rattle.std.specs.Prelude.{Result, ⊤, Ok, Err}
+use mathlib.Core.Path.{◌≡◌, refl, sym, ap, ◌∙◌, subst}
 use mathlib.Core.Bool.{Bool, true, false, cond}
 use mathlib.Core.List.{List}
 use mathlib.Core.Logic.{⊎_elim}
@@ -8,13 +9,12 @@ use Prim.Native.Nat.{ℕ, ◌+◌, ◌-◌, ◌*◌, ◌/◌, ◌%◌, ◌≤◌
 use native.Mathlib.Omega.{arith}
 use lib.Dec.{eqb}
 use lib.IntN.{ℤ}
-use lib.ListN.{get_or, set, length-set, length-replicate}
+use lib.ListN.{length, get_or, set, length-set, length-replicate}
 use lib.Seq.{get_or-set_same, get_or-set_other}
 use borrow.Author.Tests.{eq-eqb, ne_eqb}
 use Rattle.laws.specs.Counting.{first}
 use Rattle.laws.proofs.Deciding.{lt-or-le, eq-or-ne}
 use Rattle.laws.proofs.First.{first-le, first-is}
-use Rattle.sheet.specs.declared.Check.TheVariants.{Passed, Refused}
 use Rattle.sheet.specs.declared.Refusal.{Refusal}
 use Rattle.sheet.specs.Amounts.{most_edges}
 use Rattle.sheet.specs.Edges.{edges_in, drawing_of}
@@ -80,7 +80,7 @@ module _ {words : List ℕ} {n : ℕ} (W : Walks words (2 * n)) {k place start :
         record { none = λ e. absurd (omega arith); some = λ p. (rw (z, h), rw h next_start) }
 
 pub numbers-none : (words : List ℕ) (n : ℕ) → NumbersSoFar words n 0 no_numbers
-numbers-none words n = record { size = length-replicate {A = ℕ} (2 * most_edges) 0; seen = λ k l. absurd (omega arith); rest = λ i l. no-mark (2 * most_edges) i }
+numbers-none words n = record { size = length-replicate {A = ℕ} (2 * most_edges) 0; seen = λ k l. absurd (omega arith); rest = λ i l. no-mark 0 (2 * most_edges) i }
 
 -- one more end has the number of its place
 pub numbers_more : {words numbers : List ℕ} {n k i v : ℕ} → n ≤ most_edges → OneEach words n → NumbersSoFar words n k numbers → k < 2 * n → i ≡ end_in words k → v ≡ place_number words n (place_in words k) → NumbersSoFar words n (k + 1) (set numbers i v)
@@ -128,12 +128,18 @@ all-numbered {s} {words} {numbers} E O N = record { size = N.size; words = words
         let place : place_in words v.0 ≡ end_of (drawing_of s) w e = ap (λ (x : ℕ). x / 16384) v.2 ∙ word-place s w e (omega (arith, E.few)) in
         ap (λ (i : ℕ). get_or numbers i 0) (sym (end-told E O w e v.0 l v.2)) ∙ N.seen v.0 v.1 ∙ ap (place_number words (edges_in s)) place
 
+-- the words of n edges are two for each
+pub numbers-of : {words numbers : List ℕ} (n : ℕ) → length words ≡ 2 * n → NumbersSoFar words (length words / 2) (length words) numbers → NumbersSoFar words n (2 * n) numbers
+numbers-of {words} {numbers} n q N =
+    let half : length words / 2 ≡ n = omega (arith, q) in
+    subst (λ (m : ℕ). NumbersSoFar words m (2 * n) numbers) half (subst (λ (b : ℕ). NumbersSoFar words (length words / 2) b numbers) q N)
+
 -- what a check leaves that passes, and one that refuses
-not-passed : {r : Refusal} → Refused r ≡ Passed → ⊥
+not-passed : {r : Refusal} → ◌≡◌ {A = Result ⊤ Refusal} (Err r) (Ok tt) → ⊥
 not-passed q = let z : ◌≡◌ {A = ℕ} 0 1 = cc in absurd (omega arith)
 
-pub numbers-given : {s : List ℤ} {numbers : List ℕ} → Numbered s numbers → NumbersAfter s Passed numbers
+pub numbers-given : {s : List ℤ} {numbers : List ℕ} → Numbered s numbers → NumbersAfter s (Ok tt) numbers
 numbers-given N = record { passed = λ q. N; refused = λ r q. absurd (not-passed (sym q)) }
 
-pub numbers-kept : {s : List ℤ} {numbers : List ℕ} {r : Refusal} → numbers ≡ no_numbers → NumbersAfter s (Refused r) numbers
+pub numbers-kept : {s : List ℤ} {numbers : List ℕ} {r : Refusal} → numbers ≡ no_numbers → NumbersAfter s (Err r) numbers
 numbers-kept e = record { passed = λ q. absurd (not-passed q); refused = λ r q. e }

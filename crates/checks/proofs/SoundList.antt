@@ -3,10 +3,11 @@ use mathlib.Core.Path.{◌≡◌, sym, ap, ◌∙◌}
 use mathlib.Core.Bool.{true, false}
 use mathlib.Core.List.{List}
 use mathlib.Core.Logic.{⊎_elim}
-use Prim.Native.Nat.{ℕ, ◌*◌, ◌≤◌, ◌<◌}
+use Prim.Native.Nat.{ℕ, ◌*◌, ◌<◌}
 use native.Mathlib.Omega.{arith}
 use lib.IntN.{ℤ}
 use borrow.Author.Tests.{eqb-true, eq-eqb, ne_eqb}
+use Rattle.std.specs.Prelude.{None}
 use Rattle.laws.proofs.Deciding.{lt-or-le, true-or-false, not-both, neither-true}
 use Rattle.laws.proofs.Tests.{not-false}
 use Rattle.laws.proofs.Counting.{count_none}
@@ -20,7 +21,7 @@ use Rattle.sheet.proofs.AtAPlace.{same_self}
 use Rattle.checks.specs.declared.places.AtFault.{AtFault}
 use Rattle.ends.specs.Fitting.{EndsFit}
 use Rattle.ends.specs.Ends.{Ordered}
-use Rattle.checks.specs.Places.{Walks, first_at_fault}
+use Rattle.checks.specs.Places.{Walks, FirstAtFault}
 use Rattle.checks.specs.Corners.{SoundEnds}
 use Rattle.checks.proofs.Answering.{none-repeats, none-uneven}
 
@@ -62,5 +63,5 @@ pub sound-list : (s : List ℤ) → NoneBelow (repeats (drawing_of s)) (edges_in
 unfolding drawing_of
 sound-list s once level = record { single = single s once; even = even s level }
 
-pub sound-ends : {s : List ℤ} {words : List ℕ} {f : AtFault} → EndsFit s (edges_in s) → f ≡ first_at_fault s → Ordered s words (edges_in s) × Walks words (2 * edges_in s) → edges_in s ≤ f.repeated → edges_in s ≤ f.uneven → SoundEnds s words (edges_in s)
+pub sound-ends : {s : List ℤ} {words : List ℕ} {f : AtFault} → EndsFit s (edges_in s) → FirstAtFault s f → Ordered s words (edges_in s) × Walks words (2 * edges_in s) → f.repeated ≡ None → f.uneven ≡ None → SoundEnds s words (edges_in s)
 sound-ends {s} E found o once level = record { fit = E; ordered = o.0; walks = o.1; sound = sound-list s (none-repeats s found once level) (none-uneven s found once level) }

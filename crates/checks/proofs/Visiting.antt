@@ -4,11 +4,12 @@ use mathlib.Core.Path.{◌≡◌, refl, sym, ap, ◌∙◌}
 use mathlib.Core.Bool.{Bool, true, false, not, ◌&&◌}
 use mathlib.Core.List.{List}
 use mathlib.Core.Logic.{⊎_elim}
-use Prim.Native.Nat.{ℕ, ◌+◌, ◌-◌, ◌*◌, ◌/◌, ◌%◌, ◌≤◌, ◌<◌, min}
+use Prim.Native.Nat.{ℕ, ◌+◌, ◌-◌, ◌*◌, ◌/◌, ◌%◌, ◌≤◌, ◌<◌}
 use native.Mathlib.Omega.{arith}
 use lib.Dec.{eqb}
 use lib.ListN.{get_or}
 use borrow.Author.Tests.{lt-ltb, le-ltb, eqb-true, eq-eqb, ne_eqb}
+use Rattle.std.specs.Prelude.{Option, None}
 use Rattle.laws.specs.Counting.{bit, count}
 use Rattle.laws.proofs.Deciding.{lt-or-le, eq-or-ne, not-both, both_true}
 use Rattle.laws.proofs.Tests.{not-true, eqb-agree}
@@ -17,7 +18,7 @@ use Rattle.laws.proofs.Between.{count-between}
 use Rattle.laws.proofs.Either.{count-either}
 use Rattle.checks.specs.declared.places.AtFault.{AtFault}
 use Rattle.ends.specs.Ends.{key_in, place_in, edge_in, arrives_in}
-use Rattle.checks.specs.Places.{Walks, Visited, AtPlace, repeats_in, arrives_at, leaves_at, uneven_at, passed_through, any_end, Least, FoundSoFar}
+use Rattle.checks.specs.Places.{Walks, Visited, AtPlace, repeats_in, arrives_at, leaves_at, uneven_at, passed_through, any_end, Least, lower, FoundSoFar}
 use Rattle.checks.proofs.LeastEdge.{least_start, least-before, least-join, least_on}
 
 -- the ends from a on that have the place of the end at a
@@ -106,15 +107,18 @@ module _ {words : List ℕ} {m a b : ℕ} (P : AtPlace words m a b) where
       (lt-or-le 0 a)
 
   -- what is found at the place, put together with what was found before
-  pub found-more : {none x y : ℕ} {f : AtFault} → FoundSoFar words m none a f → Least (repeats_in words) (edge_in words) none (a + 1) b x → Least (uneven_at words m) (edge_in words) none a b y → FoundSoFar words m none b (record { repeated = min f.repeated x; uneven = min f.uneven y })
-  found-more F x y = record {
-    repeated = least-join (omega arith) (omega (arith, P.some)) F.repeated (least-before first-new x);
-    uneven = least-join (omega arith) (omega (arith, P.some)) F.uneven y;
+  pub found-more : {x y : Option ℕ} {f : AtFault} → FoundSoFar words m a f → Least (repeats_in words) (edge_in words) (a + 1) b x → Least (uneven_at words m) (edge_in words) a b y → FoundSoFar words m b (record { repeated = lower f.repeated x; uneven = lower f.uneven y })
+  found-more {x} {y} {f} F u v = record {
+    repeated = least-join f.repeated x (omega arith) (omega (arith, P.some)) F.repeated (least-before x P.some first-new u);
+    uneven = least-join f.uneven y (omega arith) (omega (arith, P.some)) F.uneven v;
   }
 
   -- two ends, one that arrives and one that leaves: no kind stands twice, and as many arrive as leave
-  pub found-on : {none : ℕ} {f : AtFault} → passed_through words a b ≡ true → FoundSoFar words m none a f → FoundSoFar words m none b f
-  found-on t F = record { repeated = least_on (omega (arith, P.some)) no_repeat F.repeated; uneven = least_on (omega (arith, P.some)) level F.uneven }
+  pub found-on : {f : AtFault} → passed_through words a b ≡ true → FoundSoFar words m a f → FoundSoFar words m b f
+  found-on {f} t F = record {
+    repeated = least_on f.repeated (omega arith) (omega (arith, P.some)) no_repeat F.repeated;
+    uneven = least_on f.uneven (omega arith) (omega (arith, P.some)) level F.uneven;
+  }
     where
       w : (b - a ≡ 2) × (get_or words a 0 / 8192 % 2 ≡ get_or words (a + 1) 0 / 8192 % 2 → ⊥)
       w = through-told words a b t
@@ -133,5 +137,5 @@ module _ {words : List ℕ} {m a b : ℕ} (P : AtPlace words m a b) where
       level : (k : ℕ) → a ≤ k → k < b → uneven_at words m k ≡ false
       level k l h = uneven-is 1 counted-one k l h ∙ ap not (eq-eqb 2 (b - a) (sym w.0))
 
-pub found_none : (words : List ℕ) (m none : ℕ) → FoundSoFar words m none 0 (record { repeated = none; uneven = none })
-found_none words m none = record { repeated = least_start; uneven = least_start }
+pub found_none : (words : List ℕ) (m : ℕ) → FoundSoFar words m 0 (record { repeated = None; uneven = None })
+found_none words m = record { repeated = least_start; uneven = least_start }

@@ -1,9 +1,6 @@
 -- Corners as the walk over places in order finds them, in a list that passes 8 and 9: the least edge with an end at a place that 17 is given for, and a mark
 -- for each edge whose top is apart.
-use Rattle.std.specs.Prelude.{◌≡◌, Bool, true, false, not, cond, ◌&&◌, List, ℕ, ◌*◌, ◌<◌, eqb, ltb, ℤ, length, get_or, replicate}
-use Rattle.laws.specs.Counting.{bit}
-use Rattle.sheet.specs.declared.Check.{Check}
-use Rattle.sheet.specs.declared.Check.TheVariants.{Passed, Refused}
+use Rattle.std.specs.Prelude.{◌≡◌, Bool, true, false, not, cond, ◌&&◌, List, ℕ, ◌*◌, ◌<◌, eqb, ltb, ℤ, length, get_or, replicate, Result, ⊤, Ok, Err, Option}
 use Rattle.sheet.specs.Amounts.{most_edges}
 use Rattle.sheet.specs.Turning.{Sign, turn}
 use Rattle.sheet.specs.Edges.{Drawing, edges_in, drawing_of}
@@ -13,6 +10,7 @@ use Rattle.sheet.specs.Answers.{number_of, tangled}
 use Rattle.ends.specs.Fitting.{EndsFit}
 use Rattle.ends.specs.Ends.{place_in, edge_in, Ordered}
 use Rattle.checks.specs.Places.{Walks, Least}
+use Rattle.sheet.specs.declared.Refusal.{Refusal}
 
 -- the place of an edge's top
 abbrev pub top_place : Drawing → ℕ → ℕ
@@ -22,21 +20,21 @@ top_place sh e = cond (ltb (sh.height (sh.tail e)) (sh.height (sh.head e))) (sh.
 unfoldable pub parts : Drawing → ℕ → Bool
 parts sh p = apart sh p && not (tangled sh p)
 
--- the marks: 1 for each edge of the list whose top is apart, 0 for any other
-pub record Marked (s : List ℤ) (marks : List ℕ) : Type 0 where
+-- the marks: true for each edge of the list whose top is apart, false for any other
+pub record Marked (s : List ℤ) (marks : List Bool) : Type 0 where
   pub size : length marks ≡ most_edges
-  pub mark : (e : ℕ) → get_or marks e 0 ≡ bit (ltb e (edges_in s) && parts (drawing_of s) (top_place (drawing_of s) e))
+  pub mark : (e : ℕ) → get_or marks e false ≡ (ltb e (edges_in s) && parts (drawing_of s) (top_place (drawing_of s) e))
 
-abbrev pub no_marks : List ℕ
-no_marks = replicate most_edges 0
+abbrev pub no_marks : List Bool
+no_marks = replicate most_edges false
 
 -- corners are looked at where 8 and 9 are passed
-abbrev pub corners_seen : Check → Bool
-corners_seen Passed = true
-corners_seen (Refused r) = eqb (number_of r) 17
+abbrev pub corners_seen : Result ⊤ Refusal → Bool
+corners_seen (Ok _) = true
+corners_seen (Err r) = eqb (number_of r) 17
 
--- what a check leaves in the marks, which it was lent as zeros
-pub record MarksAfter (s : List ℤ) (answer : Check) (marks : List ℕ) : Type 0 where
+-- what a check leaves in the marks, of which it was lent none
+pub record MarksAfter (s : List ℤ) (answer : Result ⊤ Refusal) (marks : List Bool) : Type 0 where
   pub seen : corners_seen answer ≡ true → Marked s marks
   pub unseen : corners_seen answer ≡ false → marks ≡ no_marks
 
@@ -55,8 +53,8 @@ unfoldable pub tangled_in : List ℤ → List ℕ → ℕ → Bool
 tangled_in s words k = tangled (drawing_of s) (place_in words k)
 
 -- what is found, and marked, at the places of the first b ends
-pub record CornersSoFar (s : List ℤ) (words : List ℕ) (n b found : ℕ) (marks : List ℕ) : Type 0 where
-  pub tangles : Least (tangled_in s words) (edge_in words) n 0 b found
+pub record CornersSoFar (s : List ℤ) (words : List ℕ) (n b : ℕ) (found : Option ℕ) (marks : List Bool) : Type 0 where
+  pub tangles : Least (tangled_in s words) (edge_in words) 0 b found
   pub size : length marks ≡ most_edges
-  pub seen : (e k : ℕ) → e < n → k < b → place_in words k ≡ top_place (drawing_of s) e → get_or marks e 0 ≡ bit (parts (drawing_of s) (top_place (drawing_of s) e))
-  pub unseen : (e : ℕ) → ((k : ℕ) → e < n → k < b → place_in words k ≡ top_place (drawing_of s) e → ⊥) → get_or marks e 0 ≡ 0
+  pub seen : (e k : ℕ) → e < n → k < b → place_in words k ≡ top_place (drawing_of s) e → get_or marks e false ≡ parts (drawing_of s) (top_place (drawing_of s) e)
+  pub unseen : (e : ℕ) → ((k : ℕ) → e < n → k < b → place_in words k ≡ top_place (drawing_of s) e → ⊥) → get_or marks e false ≡ false

@@ -1,8 +1,6 @@
 -- 5, 16 and 6 said of one edge, and what 7 compares its top with.
-use Rattle.std.specs.Prelude.{Bool, not, cond, ◌&&◌, ◌||◌, List, ℕ, zero, suc, ℤ}
+use Rattle.std.specs.Prelude.{Bool, not, ◌&&◌, ◌||◌, List, ℕ, zero, suc, ℤ}
 use Rattle.sheet.specs.declared.Edge.{Edge}
-use Rattle.sheet.specs.declared.Refusal.{Refusal}
-use Rattle.sheet.specs.declared.Refusal.TheVariants.{PastRange, FilmPastRange, EqualEnds, TopFalls}
 use Rattle.sheet.specs.Points.{in_range, is_film, is_same, top_of}
 use Rattle.sheet.specs.Rank.{rank}
 use Rattle.sheet.specs.Edges.{edge_at}
@@ -26,7 +24,3 @@ fault_alone e = limits_passed e || ends_equal e
 unfoldable pub top_before : List ℤ → ℕ → ℕ
 top_before s zero = 0
 top_before s (suc e) = rank (top_of (edge_at s e))
-
--- at an edge, 5 is tried before 16, 16 before 6 and 6 before 7
-abbrev pub first_refusal : Bool → Bool → Bool → ℕ → Refusal
-first_refusal past film equal e = cond past (PastRange e) (cond film (FilmPastRange e) (cond equal (EqualEnds e) (TopFalls e)))

@@ -1,8 +1,6 @@
 -- The places of a list's ends by number. In order the ends of one place stand together: the place's number is half the ends before them.
-use Rattle.std.specs.Prelude.{◌≡◌, List, ℕ, ◌+◌, ◌*◌, ◌/◌, ◌%◌, ◌≤◌, ◌<◌, eqb, ℤ, length, get_or, replicate}
+use Rattle.std.specs.Prelude.{◌≡◌, List, ℕ, ◌+◌, ◌*◌, ◌/◌, ◌%◌, ◌≤◌, ◌<◌, eqb, ℤ, length, get_or, replicate, Result, ⊤, Ok, Err}
 use Rattle.laws.specs.Counting.{first}
-use Rattle.sheet.specs.declared.Check.{Check}
-use Rattle.sheet.specs.declared.Check.TheVariants.{Passed, Refused}
 use Rattle.sheet.specs.declared.Refusal.{Refusal}
 use Rattle.sheet.specs.Amounts.{most_edges}
 use Rattle.sheet.specs.Edges.{edges_in, drawing_of}
@@ -25,9 +23,9 @@ abbrev pub no_numbers : List ℕ
 no_numbers = replicate (2 * most_edges) 0
 
 -- what a check leaves in the numbers, which it was lent as zeros
-pub record NumbersAfter (s : List ℤ) (answer : Check) (numbers : List ℕ) : Type 0 where
-  pub passed : answer ≡ Passed → Numbered s numbers
-  pub refused : (r : Refusal) → answer ≡ Refused r → numbers ≡ no_numbers
+pub record NumbersAfter (s : List ℤ) (answer : Result ⊤ Refusal) (numbers : List ℕ) : Type 0 where
+  pub passed : answer ≡ Ok tt → Numbered s numbers
+  pub refused : (r : Refusal) → answer ≡ Err r → numbers ≡ no_numbers
 
 -- where the number stands of the end whose word is at k
 abbrev pub end_in : List ℕ → ℕ → ℕ

@@ -1,14 +1,16 @@
 -- The walk over m ends in order, place by place, and what it looks for: the least edge that repeats a kind, and the least with an end at an uneven
 -- place.
-use Rattle.std.specs.Prelude.{◌≡◌, Bool, true, not, ◌&&◌, List, ℕ, ◌+◌, ◌-◌, ◌/◌, ◌%◌, ◌≤◌, ◌<◌, eqb, ltb, ℤ, length, get_or}
-use Rattle.laws.specs.Counting.{count, first}
+use Rattle.std.specs.Prelude.{◌≡◌, Bool, true, false, not, ◌&&◌, List, ℕ, ◌+◌, ◌-◌, ◌/◌, ◌%◌, ◌≤◌, ◌<◌, min, eqb, ltb, ℤ, length, get_or, Option, None, Some, MatchOption}
+use Rattle.laws.specs.Counting.{count, IsFirst}
 use Rattle.sheet.specs.Edges.{edges_in, drawing_of}
 use Rattle.sheet.specs.Answers.{repeats, uneven}
 use Rattle.checks.specs.declared.places.AtFault.{AtFault}
 use Rattle.ends.specs.Ends.{key_in, place_in, edge_in, arrives_in}
 
-unfoldable pub first_at_fault : List ℤ → AtFault
-first_at_fault s = record { repeated = first (repeats (drawing_of s)) (edges_in s); uneven = first (uneven (drawing_of s)) (edges_in s) }
+-- the first edge that 8 is given for, and the first that 9 is
+pub record FirstAtFault (s : List ℤ) (f : AtFault) : Type 0 where
+  pub repeated : IsFirst (repeats (drawing_of s)) (edges_in s) f.repeated
+  pub uneven : IsFirst (uneven (drawing_of s)) (edges_in s) f.uneven
 
 -- the m words rise
 pub record Walks (words : List ℕ) (m : ℕ) : Type 0 where
@@ -51,13 +53,18 @@ passed_through words a b = eqb (b - a) 2 && not (eqb (get_or words a 0 / 8192 % 
 abbrev pub any_end : ℕ → Bool
 any_end k = true
 
--- of the ends from a to b that pass a test, r is the least edge; none where there is none
-pub record Least (test : ℕ → Bool) (edge : ℕ → ℕ) (none a b r : ℕ) : Type 0 where
-  pub within : r ≤ none
-  pub some : r < none → (k : ℕ) × (a ≤ k) × (k < b) × (test k ≡ true) × (edge k ≡ r)
-  pub under : (k : ℕ) → a ≤ k → k < b → test k ≡ true → r ≤ edge k
+-- the lower of two edges, where there are two
+abbrev pub lower : Option ℕ → Option ℕ → Option ℕ
+lower None r = r
+lower (Some e) None = Some e
+lower (Some e) (Some f) = Some (min e f)
+
+-- of the ends from a to b that pass a test, r is the least edge, where there is one
+pub record Least (test : ℕ → Bool) (edge : ℕ → ℕ) (a b : ℕ) (r : Option ℕ) : Type 0 where
+  pub least : MatchOption r ((k : ℕ) → a ≤ k → k < b → test k ≡ false) (λ e.
+      ((k : ℕ) × (a ≤ k) × (k < b) × (test k ≡ true) × (edge k ≡ e)) × ((k : ℕ) → a ≤ k → k < b → test k ≡ true → e ≤ edge k))
 
 -- what is found among the first b of m ends
-pub record FoundSoFar (words : List ℕ) (m none b : ℕ) (f : AtFault) : Type 0 where
-  pub repeated : Least (repeats_in words) (edge_in words) none 0 b f.repeated
-  pub uneven : Least (uneven_at words m) (edge_in words) none 0 b f.uneven
+pub record FoundSoFar (words : List ℕ) (m b : ℕ) (f : AtFault) : Type 0 where
+  pub repeated : Least (repeats_in words) (edge_in words) 0 b f.repeated
+  pub uneven : Least (uneven_at words m) (edge_in words) 0 b f.uneven

@@ -12,35 +12,31 @@ mod visits;
 
 ghost use Rattle.std.specs.Prelude.{◌≡◌};
 ghost use Rattle.sheet.specs.Answers.{checked};
+ghost use Rattle.checks.specs.Stages.{call};
 ghost use Rattle.checks.specs.Corners.{no_marks, MarksAfter};
 ghost use Rattle.checks.specs.Numbers.{no_numbers, NumbersAfter};
 
-use sheet::{Check, Edge};
+use crate::lengths::Lengths;
+use sheet::{Edge, Refusal};
 
 // The most edges that a list holds.
 const MOST_EDGES: usize = Edge::MOST;
 
 // What the eleven checks answer. Only the lengths of the other lists matter here. Nothing is written but the marks of edges whose tops are apart
-// and, where all eleven pass, the numbers of the ends' places.
+// and, where all eleven pass, the numbers of the ends' places. Marks and numbers are lent one by one: the walk for 17 writes the ones, `number_places` the
+// others, and a struct of both would be taken apart at each.
 pub fn check(
     edges: &[i32],
-    polygons: usize,
-    sequences: usize,
-    turns: usize,
-    journal: usize,
-    apart: &mut [u8],
+    lengths: Lengths,
+    apart: &mut [bool],
     numbers: &mut [u16],
-) -> Check
+) -> Result<(), Refusal>
     requires { (apart.old ≡ no_marks) × (numbers.old ≡ no_numbers) }
     ensures marks_after { MarksAfter edges.now result apart.new }
-    ensures value { result ≡ checked (record { list = edges.now; polygons = polygons; sequences = sequences; turns = turns; journal = journal }) }
+    ensures value { result ≡ checked (call edges.now lengths) }
     ensures numbers_after { NumbersAfter edges.now result numbers.new }
 {
-    if let Check::Refused(refusal) = lengths::check(edges, polygons, sequences, turns, journal) {
-        return Check::Refused(refusal);
-    }
-    if let Check::Refused(refusal) = faults::check(edges) {
-        return Check::Refused(refusal);
-    }
+    lengths::check(edges, lengths)?;
+    faults::check(edges)?;
     places::check(edges, apart, numbers)
 }

@@ -12,7 +12,7 @@ use sheet::Point;
 fn gap(from: i32, to: i32) -> i64
     ensures { result ≡ to -ℤ from }
 {
-    (to as i64) - (from as i64)
+    i64::from(to) - i64::from(from)
 }
 
 // The turn at a point, from the direction of one point to that of another: below 0 where it goes clockwise, above 0 where it goes the other way.
@@ -33,8 +33,5 @@ pub fn turn(at: Point, from: Point, to: Point) -> i64
 pub fn alternate(low: i64, high: i64) -> bool
     ensures { result ≡ alike (sign low) (sign high) }
 {
-    if low < 0 {
-        return high < 0;
-    }
-    0 < low && 0 < high
+    low != 0 && low.signum() == high.signum()
 }

@@ -13,7 +13,7 @@ cuttable m os drawn closed = record {
   read_back = outlines-back (place_for m) (point_at m) (point-back m) os drawn;
   size = outline-length (place_for m);
   orderly = orderly (place_for m) os closed;
-  down = λ done rest x y e h. cut_down done x y h;
+  down = λ done rest p e h. cut_down done p h;
   apart = apart (place_for m) os;
   stands = stands (place_for m) os closed;
 }

@@ -5,7 +5,6 @@ use mathlib.Core.Bool.{true}
 use mathlib.Core.List.{List, [], ◌∷◌, ◌++◌}
 use Prim.Native.Nat.{◌+◌}
 use native.Mathlib.Omega.{arith}
-use lib.Ieee.{Float}
 use lib.ListN.{length}
 use Rattle.sheet.specs.declared.Point.{Point}
 use Rattle.cutter.specs.declared.machines.Place.{Place}
@@ -22,10 +21,10 @@ closed-among [] after o h = h.0
 closed-among (b ∷ before) after o h = closed-among before after o h.1
 
 -- a cut leaves the blade down, whatever was run before
-pub cut_down : (done : List Instruction) (x y : Float) (h : Head) → (ran h (done ++ (Cut x y ∷ []))).down ≡ true
+pub cut_down : (done : List Instruction) (p : Place) (h : Head) → (ran h (done ++ (Cut p ∷ []))).down ≡ true
 unfolding ran
-cut_down [] x y h = refl
-cut_down (i ∷ done) x y h = cut_down done x y (advanced h i)
+cut_down [] p h = refl
+cut_down (i ∷ done) p h = cut_down done p (advanced h i)
 
 module _ (place : Point → Place) where
   cuts-orderly : (ps : List Point) (rest : List Instruction) → Orderly resting rest → Orderly cutting (cuts place ps (Lift ∷ rest))

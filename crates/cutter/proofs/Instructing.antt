@@ -1,16 +1,16 @@
 -- What is promised of an instruction, by the way that led to the answer: refused for the edges, for the numbers or the turn list, for a head that is not
 -- the next tail, or answered from lists that outlines can be cut from.
+use Rattle.std.specs.Prelude.{Ok, Err, Result, ⊤}
 use mathlib.Core.Path.{◌≡◌, refl, sym, ◌∙◌}
 use mathlib.Core.Bool.{false}
 use mathlib.Core.List.{List}
-use Prim.Native.Nat.{ℕ, ◌≤◌, ◌<◌}
+use Prim.Native.Nat.{ℕ, ◌<◌}
 use native.Mathlib.Omega.{arith}
 use lib.IntN.{ℤ}
 use lib.ListN.{length, get_or}
 use Rattle.laws.specs.Counting.{first}
 use Rattle.laws.proofs.First.{first-least}
 use Rattle.sheet.specs.declared.Refusal.{Refusal}
-use Rattle.sheet.specs.declared.Check.TheVariants as check
 use Rattle.sheet.specs.Edges.{edges_in}
 use Rattle.checks.specs.Stages.{and_then, list_checked, edges_alone_checked}
 use Rattle.checks.proofs.Answering.{alone-fit}
@@ -18,10 +18,7 @@ use Rattle.ends.proofs.Fitting.{tail-in, head_in}
 use Rattle.cutter.specs.declared.machines.Machine.{Machine}
 use Rattle.cutter.specs.declared.CutRefusal.{CutRefusal}
 use Rattle.cutter.specs.declared.CutRefusal.TheVariants.{Edges, HeadNotTail}
-use Rattle.cutter.specs.declared.Step.{Step}
-use Rattle.cutter.specs.declared.Step.TheVariants.{Next, Refused}
-use Rattle.cutter.specs.declared.turning.Turning.{Turning}
-use Rattle.cutter.specs.declared.turning.Turning.TheVariants as turning
+use Rattle.cutter.specs.Instructed.{Step}
 use Rattle.cutter.specs.Places.{place_for}
 use Rattle.cutter.specs.Programme.{programme}
 use Rattle.cutter.specs.Outlines.{outlines_of, head_not_tail}
@@ -36,12 +33,12 @@ use Rattle.cutter.proofs.StrokesBack.{strokes-back}
 use Rattle.cutter.proofs.Places.{place-exact}
 use Rattle.cutter.proofs.Cuttable.{cuttable}
 
-refused-not-next : {A : Type 0} (r : CutRefusal) {s : Step} → s ≡ Refused r → (i : _) → s ≡ Next i → A
+refused-not-next : {A : Type 0} (r : CutRefusal) {s : Step} → s ≡ Err r → (i : _) → s ≡ Ok i → A
 refused-not-next r q i e = let z : ◌≡◌ {A = ℕ} 0 1 = cc in absurd (omega arith)
 
 -- lists that passed all that is asked before 25
-module _ (list : List ℤ) (polygons sequences turns : List ℕ) (passed : and_then (list_checked list) (edges_alone_checked list) ≡ check.Passed)
-    {t : Turning} (T : TurnsChecked polygons sequences turns (edges_in list) t) (right : t ≡ turning.Passed) where
+module _ (list : List ℤ) (polygons sequences turns : List ℕ) (passed : and_then (list_checked list) (edges_alone_checked list) ≡ Ok tt)
+    {t : Result ⊤ CutRefusal} (T : TurnsChecked polygons sequences turns (edges_in list) t) (right : t ≡ Ok tt) where
   pub drawable : Drawable list polygons sequences turns
   drawable =
       let E = alone-fit list passed in
@@ -59,7 +56,7 @@ module _ (list : List ℤ) (polygons sequences turns : List ℕ) (passed : and_t
   turns-long = as_long drawable ∙ (T.passed right).0
 
 module _ (m : Machine) (list : List ℤ) (polygons sequences turns : List ℕ) (k : ℕ) where
-  pub on-edges : (r : Refusal) → and_then (list_checked list) (edges_alone_checked list) ≡ check.Refused r → Instructs m list polygons sequences turns k (Refused (Edges r))
+  pub on-edges : (r : Refusal) → and_then (list_checked list) (edges_alone_checked list) ≡ Err r → Instructs m list polygons sequences turns k (Err (Edges r))
   unfolding instructed
   on-edges r q = record {
     right = some_turn_list polygons sequences;
@@ -71,12 +68,12 @@ module _ (m : Machine) (list : List ℤ) (polygons sequences turns : List ℕ) (
   }
 
   -- once the edges are passed
-  module _ (passed : and_then (list_checked list) (edges_alone_checked list) ≡ check.Passed) {t : Turning} (T : TurnsChecked polygons sequences turns (edges_in list) t) where
+  module _ (passed : and_then (list_checked list) (edges_alone_checked list) ≡ Ok tt) {t : Result ⊤ CutRefusal} (T : TurnsChecked polygons sequences turns (edges_in list) t) where
     answered : after_turning t (joined_step m list sequences turns k) ≡ instructed m list polygons sequences turns T.right k
     unfolding instructed
     answered = rw passed (T.answer (joined_step m list sequences turns k))
 
-    pub on-turns : (r : CutRefusal) → t ≡ turning.Refused r → Instructs m list polygons sequences turns k (Refused r)
+    pub on-turns : (r : CutRefusal) → t ≡ Err r → Instructs m list polygons sequences turns k (Err r)
     on-turns r q = record {
       right = T.right;
       given = T.given;
@@ -87,7 +84,7 @@ module _ (m : Machine) (list : List ℤ) (polygons sequences turns : List ℕ) (
     }
 
     -- and the turn list too
-    module _ (right : t ≡ turning.Passed) where
+    module _ (right : t ≡ Ok tt) where
       D : Drawable list polygons sequences turns
       D = drawable list polygons sequences turns passed T right
 
@@ -97,28 +94,28 @@ module _ (m : Machine) (list : List ℤ) (polygons sequences turns : List ℕ) (
       joined-answer : joined_step m list sequences turns k ≡ instructed m list polygons sequences turns T.right k
       joined-answer = rw right at answered
 
-      module _ (broken : ℕ) (found : broken ≡ first (head_not_tail list sequences turns) (length turns)) where
-        joined : edges_in list ≤ broken → (i : ℕ) → i < length turns → head_not_tail list sequences turns i ≡ false
-        joined l i h = first-least (head_not_tail list sequences turns) (length turns) i (omega (arith, h, l, found, long))
+      pub on-broken : {broken : ℕ} → (broken < length turns) × (broken ≡ first (head_not_tail list sequences turns) (length turns)) → Instructs m list polygons sequences turns k (Err (HeadNotTail (get_or turns broken 0)))
+      unfolding joined_step
+      on-broken found = record {
+        right = T.right;
+        given = T.given;
+        answer = refuse-here _ _ (λ i. HeadNotTail (get_or turns i 0)) _ found ∙ joined-answer;
+        exact = place-exact m;
+        cuttable = refused-not-next _ refl;
+        edges_back = refused-not-next _ refl;
+      }
 
-        pub on-broken : broken < edges_in list → Instructs m list polygons sequences turns k (Refused (HeadNotTail (get_or turns broken 0)))
+      module _ (none : first (head_not_tail list sequences turns) (length turns) ≡ length turns) where
+        joined : (i : ℕ) → i < length turns → head_not_tail list sequences turns i ≡ false
+        joined i h = first-least (head_not_tail list sequences turns) (length turns) i (omega (arith, h, none))
+
+        pub on-joined : {r : Step} → r ≡ kth (programme (place_for m) (outlines_of list sequences turns)) k → Instructs m list polygons sequences turns k r
         unfolding joined_step
-        on-broken l = record {
+        on-joined q = record {
           right = T.right;
           given = T.given;
-          answer = refuse-here _ _ _ found (λ i. HeadNotTail (get_or turns i 0)) _ (omega (arith, l, long)) ∙ joined-answer;
+          answer = q ∙ refuse-not _ _ (λ i. HeadNotTail (get_or turns i 0)) _ none ∙ joined-answer;
           exact = place-exact m;
-          cuttable = refused-not-next _ refl;
-          edges_back = refused-not-next _ refl;
-        }
-
-        pub on-joined : edges_in list ≤ broken → {r : Step} → r ≡ kth (programme (place_for m) (outlines_of list sequences turns)) k → Instructs m list polygons sequences turns k r
-        unfolding joined_step
-        on-joined l q = record {
-          right = T.right;
-          given = T.given;
-          answer = q ∙ refuse-not _ _ _ found (λ i. HeadNotTail (get_or turns i 0)) _ (omega (arith, l, long)) ∙ joined-answer;
-          exact = place-exact m;
-          cuttable = λ i e. cuttable m _ (drawn D) (closed D (joined l));
-          edges_back = λ i e. strokes-back m D (joined l);
+          cuttable = λ i e. cuttable m _ (drawn D) (closed D joined);
+          edges_back = λ i e. strokes-back m D joined;
         }

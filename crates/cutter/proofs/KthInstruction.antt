@@ -1,6 +1,7 @@
 -- The k-th instruction, told by the positions of a right turn list. Behind the cut of a position comes what the rest of the turn list makes of the outline
 -- that is under way: a cut more, or a lift and the next outline. So the positions' counts up to their cuts grow by one or by three, and the instruction
 -- at k is told by the first position whose count passes k.
+use Rattle.std.specs.Prelude.{Ok, Err}
 use mathlib.Core.Path.{◌≡◌, refl, sym, ap, ◌∙◌}
 use mathlib.Core.Bool.{true, false}
 use mathlib.Core.List.{List, [], ◌∷◌}
@@ -21,12 +22,11 @@ use Rattle.cutter.specs.declared.machines.Machine.{Machine}
 use Rattle.cutter.specs.declared.blade.Instruction.{Instruction}
 use Rattle.cutter.specs.declared.blade.Instruction.TheVariants.{Lift}
 use Rattle.cutter.specs.declared.CutRefusal.TheVariants.{PastLast}
-use Rattle.cutter.specs.declared.Step.TheVariants.{Next, Refused}
 use Rattle.cutter.specs.Places.{place_for}
 use Rattle.cutter.specs.Blade.{travel_to, cut_to}
 use Rattle.cutter.specs.Programme.{cuts, programme}
 use Rattle.cutter.specs.Outlines.{heads_on, outlines_of}
-use Rattle.cutter.specs.Instructed.{kth}
+use Rattle.cutter.specs.Instructed.{Step, kth}
 use Rattle.cutter.specs.Runs.{Runs}
 use Rattle.cutter.specs.Position.{up_to_cut, past_last, before_end}
 use Rattle.cutter.proofs.RightTurns.{run-begins, run-onward}
@@ -66,7 +66,7 @@ module _ (m : Machine) (list : List ℤ) (sequences : List ℕ) where
   none-all = refl
 
 -- an empty sheet has no instruction
-none_at_all : (m : Machine) (list : List ℤ) (sequences turns : List ℕ) (k : ℕ) → length turns ≡ 0 → Refused PastLast ≡ kth (programme (place_for m) (outlines_of list sequences turns)) k
+none_at_all : (m : Machine) (list : List ℤ) (sequences turns : List ℕ) (k : ℕ) → length turns ≡ 0 → Err PastLast ≡ kth (programme (place_for m) (outlines_of list sequences turns)) k
 unfolding kth programme outlines_of
 none_at_all m list sequences [] k q = refl
 none_at_all m list sequences (t ∷ ts) k q = absurd (omega (arith, q))
@@ -119,37 +119,37 @@ module _ (m : Machine) (list : List ℤ) (polygons sequences turns : List ℕ) (
       (run-onward polygons sequences turns R i l)
 
   -- the three that may come up to a cut
-  the-cut : (e back : ℕ) → back ≡ 1 → Next (cut_of m list sequences e) ≡ Next (before_end m (edge_at list e) back)
+  the-cut : (e back : ℕ) → back ≡ 1 → ◌≡◌ {A = Step} (Ok (cut_of m list sequences e)) (Ok (before_end m (edge_at list e) back))
   unfolding before_end
   the-cut e back q = rw q refl
 
-  the_travel : (e back : ℕ) → back ≡ 2 → Next (travel_of m list sequences e) ≡ Next (before_end m (edge_at list e) back)
+  the_travel : (e back : ℕ) → back ≡ 2 → ◌≡◌ {A = Step} (Ok (travel_of m list sequences e)) (Ok (before_end m (edge_at list e) back))
   unfolding before_end
   the_travel e back q = rw q refl
 
-  the-lift : (e back : ℕ) → back ≡ 3 → Next Lift ≡ Next (before_end m (edge_at list e) back)
+  the-lift : (e back : ℕ) → back ≡ 3 → ◌≡◌ {A = Step} (Ok Lift) (Ok (before_end m (edge_at list e) back))
   unfolding before_end
   the-lift e back q = rw q refl
 
-  at_first : 0 < n → (k : ℕ) → k < count 0 → kth (all m list sequences turns) k ≡ Next (before_end m (edge_at list (turn 0)) (count 0 - k))
+  at_first : 0 < n → (k : ℕ) → k < count 0 → kth (all m list sequences turns) k ≡ Ok (before_end m (edge_at list (turn 0)) (count 0 - k))
   unfolding kth
   at_first l zero h = rw (all-begun l) (the_travel (turn 0) (count 0 - 0) (omega (arith, first_count l)))
   at_first l (suc zero) h = rw (all-begun l) (the-cut (turn 0) (count 0 - 1) (omega (arith, first_count l)))
   at_first l (suc (suc k)) h = absurd (omega (arith, h, first_count l))
 
   -- the first three behind the cut of a position, where the next one begins an outline
-  at_zero : (e : ℕ) (ts : List ℕ) → get_or sequences e 0 ≡ 0 → (j back : ℕ) → back + j ≡ 3 → 0 < back → kth (behind m list sequences (e ∷ ts)) j ≡ Next (before_end m (edge_at list e) back)
+  at_zero : (e : ℕ) (ts : List ℕ) → get_or sequences e 0 ≡ 0 → (j back : ℕ) → back + j ≡ 3 → 0 < back → kth (behind m list sequences (e ∷ ts)) j ≡ Ok (before_end m (edge_at list e) back)
   unfolding kth
   at_zero e ts z zero back q h = rw (behind-zero m list sequences e ts z) (the-lift e back (omega (arith, q)))
   at_zero e ts z (suc zero) back q h = rw (behind-zero m list sequences e ts z) (the_travel e back (omega (arith, q)))
   at_zero e ts z (suc (suc zero)) back q h = rw (behind-zero m list sequences e ts z) (the-cut e back (omega (arith, q)))
   at_zero e ts z (suc (suc (suc j))) back q h = absurd (omega (arith, q, h))
 
-  at_on : (e : ℕ) (ts : List ℕ) → (get_or sequences e 0 ≡ 0 → ⊥) → (j back : ℕ) → j ≡ 0 → back ≡ 1 → kth (behind m list sequences (e ∷ ts)) j ≡ Next (before_end m (edge_at list e) back)
+  at_on : (e : ℕ) (ts : List ℕ) → (get_or sequences e 0 ≡ 0 → ⊥) → (j back : ℕ) → j ≡ 0 → back ≡ 1 → kth (behind m list sequences (e ∷ ts)) j ≡ Ok (before_end m (edge_at list e) back)
   unfolding kth
   at_on e ts z j back q h = rw (q, behind-on m list sequences e ts z) (the-cut e back h)
 
-  at_next : (i : ℕ) → suc i < n → (k : ℕ) → count i ≤ k → k < count (suc i) → kth (all m list sequences turns) k ≡ Next (before_end m (edge_at list (turn (suc i))) (count (suc i) - k))
+  at_next : (i : ℕ) → suc i < n → (k : ℕ) → count i ≤ k → k < count (suc i) → kth (all m list sequences turns) k ≡ Ok (before_end m (edge_at list (turn (suc i))) (count (suc i) - k))
   at_next i l k a b =
       let q : k ≡ k - count i + count i = omega (arith, a) in
       ap (kth (all m list sequences turns)) q ∙ from_cut i (omega arith) (k - count i) ∙ ap (λ (ts : List ℕ). kth (behind m list sequences ts) (k - count i)) (rest (suc i) l)
@@ -159,7 +159,7 @@ module _ (m : Machine) (list : List ℤ) (polygons sequences turns : List ℕ) (
       (run-onward polygons sequences turns R i l)
 
   -- the instruction at k, by the first position whose count passes it
-  at_position : (i : ℕ) → i < n → (k : ℕ) → ((h : ℕ) → h < i → count h ≤ k) → k < count i → Next (before_end m (edge_at list (turn i)) (count i - k)) ≡ kth (all m list sequences turns) k
+  at_position : (i : ℕ) → i < n → (k : ℕ) → ((h : ℕ) → h < i → count h ≤ k) → k < count i → Ok (before_end m (edge_at list (turn i)) (count i - k)) ≡ kth (all m list sequences turns) k
   at_position zero l k a b = sym (at_first l k b)
   at_position (suc i) l k a b = sym (at_next i l k (a i (omega arith)) b)
 
@@ -170,28 +170,28 @@ module _ (m : Machine) (list : List ℤ) (polygons sequences turns : List ℕ) (
       ∙ ap (λ (ts : List ℕ). kth (behind m list sequences ts) j) (ap (λ (k : ℕ). drop k turns) q ∙ drop-length turns)
       ∙ ap (λ (is : List Instruction). kth is j) (behind-none m list sequences)
 
-  last-lift : (i k : ℕ) → suc i ≡ n → k ≡ count i → Next Lift ≡ kth (all m list sequences turns) k
+  last-lift : (i k : ℕ) → suc i ≡ n → k ≡ count i → Ok Lift ≡ kth (all m list sequences turns) k
   unfolding kth
   last-lift i k q h = sym (ap (kth (all m list sequences turns)) (h ∙ zero-plus (count i)) ∙ behind-last i q 0)
     where
       zero-plus : (a : ℕ) → a ≡ 0 + a
       zero-plus a = omega arith
 
-  past-last : (i k : ℕ) → suc i ≡ n → count i < k → Refused PastLast ≡ kth (all m list sequences turns) k
+  past-last : (i k : ℕ) → suc i ≡ n → count i < k → Err PastLast ≡ kth (all m list sequences turns) k
   unfolding kth
   past-last i k q h =
       let p : k ≡ suc (k - suc (count i)) + count i = omega (arith, h) in
       sym (ap (kth (all m list sequences turns)) p ∙ behind-last i q (suc (k - suc (count i))))
 
   -- ---- by what is asked of k
-  pub when-past : (k : ℕ) → past_last polygons turns k ≡ true → Refused PastLast ≡ kth (all m list sequences turns) k
+  pub when-past : (k : ℕ) → past_last polygons turns k ≡ true → Err PastLast ≡ kth (all m list sequences turns) k
   unfolding past_last
   when-past k t = ⊎_elim
       (λ l. past-last (n - 1) k (omega (arith, l)) (ltb-true _ _ (rw (ne_eqb n 0 (λ q. absurd (omega (arith, q, l)))) at t)))
       (λ l. none_at_all m list sequences turns k (omega (arith, l)))
       (lt-or-le 0 n)
 
-  pub when-lift : (k : ℕ) → past_last polygons turns k ≡ false → n ≤ first (λ i. ltb k (count i)) n → Next Lift ≡ kth (all m list sequences turns) k
+  pub when-lift : (k : ℕ) → past_last polygons turns k ≡ false → first (λ i. ltb k (count i)) n ≡ n → Ok Lift ≡ kth (all m list sequences turns) k
   unfolding past_last
   when-lift k f g = ⊎_elim
       (λ l.
@@ -201,9 +201,9 @@ module _ (m : Machine) (list : List ℤ) (polygons sequences turns : List ℕ) (
       (λ l. absurd (not-both refl (rw (eq-eqb n 0 (omega (arith, l))) at f)))
       (lt-or-le 0 n)
 
-  module _ (k i : ℕ) (found : i ≡ first (λ j. ltb k (count j)) n) (l : i < n) where
+  module _ (k i : ℕ) (found : (i < n) × (i ≡ first (λ j. ltb k (count j)) n)) where
     pub passed : k < count i
-    passed = ltb-true _ _ (rw (← found) at (first_holds (λ j. ltb k (count j)) n (rw (← found) l)))
+    passed = ltb-true _ _ (rw (← found.1) at (first_holds (λ j. ltb k (count j)) n (rw (← found.1) found.0)))
 
-    pub when-found : Next (before_end m (edge_at list (turn i)) (count i - k)) ≡ kth (all m list sequences turns) k
-    when-found = at_position i l k (λ h g. ltb-false _ _ (first-least (λ j. ltb k (count j)) n h (rw (← found) g))) passed
+    pub when-found : Ok (before_end m (edge_at list (turn i)) (count i - k)) ≡ kth (all m list sequences turns) k
+    when-found = at_position i found.0 k (λ h g. ltb-false _ _ (first-least (λ j. ltb k (count j)) n h (rw (← found.1) g))) passed

@@ -1,5 +1,6 @@
 -- Lists that pass all that is asked before 18 are refused nothing else, and 18 exactly from the number of edges and twice the number of polygons on. Such
 -- lists pass 11 to 14, 24 and 25, and what is promised settles the answer (OneAnswer.antt); the last edge in turn is of the last polygon.
+use Rattle.std.specs.Prelude.{Ok, Err}
 use mathlib.Core.Path.{◌≡◌, refl, sym, ap, ◌∙◌}
 use mathlib.Core.Bool.{true, false}
 use mathlib.Core.List.{List}
@@ -12,9 +13,7 @@ use lib.IntN.{ℤ}
 use lib.ListN.{length, get_or}
 use Rattle.laws.specs.Counting.{first}
 use Rattle.laws.proofs.Deciding.{lt-or-le}
-use Rattle.laws.proofs.First.{first-none}
-use Rattle.sheet.specs.declared.Check.TheVariants as check
-use Rattle.sheet.specs.declared.TurnAnswer.TheVariants.{Accepted}
+use Rattle.laws.proofs.First.{first-le, first-none}
 use Rattle.sheet.specs.Edges.{edges_in}
 use Rattle.sheet.specs.TurnList.{number_lists, turned, TurnList}
 use Rattle.sheet.proofs.ExactlyAccepted.{accepts-exactly}
@@ -25,8 +24,7 @@ use Rattle.cutter.specs.declared.machines.Machine.{Machine}
 use Rattle.cutter.specs.declared.blade.Instruction.{Instruction}
 use Rattle.cutter.specs.declared.blade.Instruction.TheVariants.{Lift}
 use Rattle.cutter.specs.declared.CutRefusal.TheVariants.{PastLast}
-use Rattle.cutter.specs.declared.Step.{Step}
-use Rattle.cutter.specs.declared.Step.TheVariants.{Next, Refused}
+use Rattle.cutter.specs.Instructed.{Step}
 use Rattle.cutter.specs.Places.{place_for}
 use Rattle.cutter.specs.Programme.{programme}
 use Rattle.cutter.specs.Outlines.{outlines_of, head_not_tail}
@@ -40,9 +38,9 @@ use Rattle.cutter.proofs.OneAnswer.{one_answer}
 use Rattle.cutter.proofs.KthInstruction.{when-past, when-lift, when-found}
 
 module _ (list : List ℤ) (polygons sequences turns : List ℕ) {c : ℕ}
-    (passed : and_then (list_checked list) (edges_alone_checked list) ≡ check.Passed)
+    (passed : and_then (list_checked list) (edges_alone_checked list) ≡ Ok tt)
     (polygons_long : length polygons ≡ edges_in list) (sequences_long : length sequences ≡ edges_in list)
-    (accepted : turned polygons sequences (length turns) ≡ Accepted c)
+    (accepted : turned polygons sequences (length turns) ≡ Ok c)
     (T : TurnList (number_lists polygons sequences) turns) where
   pub runs : Runs (number_lists polygons sequences) turns
   runs = right-runs polygons sequences turns (sequences_long ∙ sym polygons_long) (omega (arith, polygons_long, (alone-fit list passed).few)) c accepted T
@@ -98,13 +96,13 @@ module _ (list : List ℤ) (polygons sequences turns : List ℕ) {c : ℕ}
       step_is : r ≡ kth (programme (place_for m) (outlines_of list sequences turns)) k
       step_is =
           let checked = on-run (edges_in list) polygons sequences turns polygons_long sequences_long turns-long (alone-fit list passed).few runs in
-          one_answer m list polygons sequences turns k I (on-joined m list polygons sequences turns k passed checked refl _ refl (omega (arith, turns-long, first-none _ (length turns) joined)) refl)
+          one_answer m list polygons sequences turns k I (on-joined m list polygons sequences turns k passed checked refl (first-none _ (length turns) joined) refl)
 
-      pub past : length turns + 2 * c ≤ k → r ≡ Refused PastLast
+      pub past : length turns + 2 * c ≤ k → r ≡ Err PastLast
       past h = step_is ∙ sym (when-past m list polygons sequences turns runs k (past-told h))
 
-      pub not-past : k < length turns + 2 * c → (i : Instruction) × (r ≡ Next i)
+      pub not-past : k < length turns + 2 * c → (i : Instruction) × (r ≡ Ok i)
       not-past h = ⊎_elim
-          (λ l. (_, step_is ∙ sym (when-found m list polygons sequences turns runs k _ refl l)))
-          (λ l. (Lift, step_is ∙ sym (when-lift m list polygons sequences turns runs k (not-past-told h) l)))
+          (λ l. (_, step_is ∙ sym (when-found m list polygons sequences turns runs k _ (l, refl))))
+          (λ l. (Lift, step_is ∙ sym (when-lift m list polygons sequences turns runs k (not-past-told h) (omega (arith, l, first-le (λ i. ltb k (up_to_cut polygons turns i)) (length turns))))))
           (lt-or-le (first (λ i. ltb k (up_to_cut polygons turns i)) (length turns)) (length turns))

@@ -1,13 +1,13 @@
 -- A list runs along the numbers of two lists just where these are accepted and it is their turn list: a list that runs is the turn list of a good numbering
 -- (RunIsTurnList.antt), the turn list of a good numbering runs (TurnListRuns.antt), and the good numberings are those that are accepted. What going
 -- back along it (AlongRun.antt) says of the lists is told in their own words.
+use Rattle.std.specs.Prelude.{Ok}
 use mathlib.Core.Path.{◌≡◌}
 use mathlib.Core.List.{List}
 use mathlib.Core.Logic.{◌⊎◌}
 use Prim.Native.Nat.{ℕ, suc, ◌-◌, ◌≤◌, ◌<◌}
 use native.Mathlib.Omega.{arith}
 use lib.ListN.{length, get_or}
-use Rattle.sheet.specs.declared.TurnAnswer.TheVariants.{Accepted}
 use Rattle.sheet.specs.Amounts.{most_edges}
 use Rattle.sheet.specs.TurnList.{number_lists, turned, TurnList}
 use Rattle.sheet.proofs.ExactlyAccepted.{accepts-exactly}
@@ -17,11 +17,11 @@ use Rattle.cutter.proofs.RunIsTurnList.{run-turn-list, run-good}
 use Rattle.cutter.proofs.TurnListRuns.{turn-list-runs}
 
 module _ (polygons sequences turns : List ℕ) (same : length sequences ≡ length polygons) (few : length polygons ≤ most_edges) where
-  pub runs-right : Runs (number_lists polygons sequences) turns → (c : ℕ) × (turned polygons sequences (length turns) ≡ Accepted c) × TurnList (number_lists polygons sequences) turns
+  pub runs-right : Runs (number_lists polygons sequences) turns → (c : ℕ) × (turned polygons sequences (length turns) ≡ Ok c) × TurnList (number_lists polygons sequences) turns
   unfolding number_lists
   runs-right R = (_, (accepts-exactly polygons sequences (length turns) _).1 (record { sequences_too = same; turns_too = R.size; few = few; numbering = run-good R }), run-turn-list R)
 
-  pub right-runs : (c : ℕ) → turned polygons sequences (length turns) ≡ Accepted c → TurnList (number_lists polygons sequences) turns → Runs (number_lists polygons sequences) turns
+  pub right-runs : (c : ℕ) → turned polygons sequences (length turns) ≡ Ok c → TurnList (number_lists polygons sequences) turns → Runs (number_lists polygons sequences) turns
   right-runs c q T = turn-list-runs T ((accepts-exactly polygons sequences (length turns) c).0 q).numbering
 
 module _ (polygons sequences turns : List ℕ) (R : Runs (number_lists polygons sequences) turns) where

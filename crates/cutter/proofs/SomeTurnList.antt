@@ -1,5 +1,6 @@
 -- Every numbering that is accepted has a turn list. An edge's position in it is the number of edges that come before it: no two edges have one position,
 -- since of two edges one comes before the other, and so every position has its edge.
+use Rattle.std.specs.Prelude.{Ok}
 use mathlib.Core.Path.{◌≡◌, ap, ◌∙◌}
 use mathlib.Core.Bool.{Bool, true, false, ◌&&◌, ◌||◌}
 use mathlib.Core.List.{List}
@@ -16,7 +17,6 @@ use Rattle.laws.proofs.Counting.{without, without-there, count-implies, count-wi
 use Rattle.laws.proofs.First.{first_holds, first-least}
 use Rattle.laws.proofs.Pigeonhole.{reached}
 use Rattle.laws.proofs.Listing.{length-list_of, get_or-list_of}
-use Rattle.sheet.specs.declared.TurnAnswer.TheVariants.{Accepted}
 use Rattle.sheet.specs.TurnList.{NumberLists, number_lists, Before, TurnList, turned}
 use Rattle.sheet.proofs.ExactlyAccepted.{accepts-exactly}
 use Rattle.turns.proofs.Neighbours.{before-both}
@@ -111,7 +111,7 @@ module _ (v : NumberLists) where
         (λ t. absurd (omega (arith, a, b, ap (position v) t))))
         (either _ _ (edge-below i l) (edge-below j m))
 
-pub some-turn-list : (polygons sequences : List ℕ) (turns c : ℕ) → turned polygons sequences turns ≡ Accepted c → TurnList (number_lists polygons sequences) (some_turn_list polygons sequences)
+pub some-turn-list : (polygons sequences : List ℕ) (turns c : ℕ) → turned polygons sequences turns ≡ Ok c → TurnList (number_lists polygons sequences) (some_turn_list polygons sequences)
 unfolding some_turn_list number_lists
 some-turn-list polygons sequences turns c q = record {
   size = length-list_of _ _;

@@ -1,5 +1,6 @@
 -- Calls for instructions of 01's triangle and of two outlines, worked by the definition: one table, each call with its answer, and one test that is computed over all of it. Where
 -- a call has two faults the table says which is answered.
+use Rattle.std.specs.Prelude.{Ok, Err}
 use Prim.Native.Nat.{ℕ}
 use mathlib.Core.Path.{◌≡◌, refl}
 use mathlib.Core.Bool.{Bool, true, false, ◌&&◌}
@@ -18,8 +19,7 @@ use Rattle.singles.specs.Singles as singles
 use Rattle.cutter.specs.declared.machines.Machine.{Machine}
 use Rattle.cutter.specs.declared.machines.Machine.TheVariants.{Flatbed, RollFeeder}
 use Rattle.cutter.specs.declared.blade.Instruction.TheVariants.{Travel, Cut, Lift}
-use Rattle.cutter.specs.declared.Step.{Step}
-use Rattle.cutter.specs.declared.Step.TheVariants.{Next, Refused}
+use Rattle.cutter.specs.Instructed.{Step}
 use Rattle.cutter.specs.Places as places
 use Rattle.cutter.specs.Programme as programmes
 use Rattle.cutter.specs.Outlines as outlines
@@ -28,10 +28,10 @@ use Rattle.cutter.specs.Instructed.{cut_number_of, cut_place_of, instructed}
 
 -- 0, 1, 2 for travel, cut and lift, with the bits of the two floats; a refusal as its number and place behind a 3
 told : Step → List ℕ
-told (Next (Travel x y)) = 0 ∷ to_bits binary32 x ∷ to_bits binary32 y ∷ []
-told (Next (Cut x y)) = 1 ∷ to_bits binary32 x ∷ to_bits binary32 y ∷ []
-told (Next Lift) = 2 ∷ []
-told (Refused r) = 3 ∷ cut_number_of r ∷ cut_place_of r ∷ []
+told (Ok (Travel p)) = 0 ∷ to_bits binary32 p.first ∷ to_bits binary32 p.second ∷ []
+told (Ok (Cut p)) = 1 ∷ to_bits binary32 p.first ∷ to_bits binary32 p.second ∷ []
+told (Ok Lift) = 2 ∷ []
+told (Err r) = 3 ∷ cut_number_of r ∷ cut_place_of r ∷ []
 
 same : List ℕ → List ℕ → Bool
 same [] [] = true

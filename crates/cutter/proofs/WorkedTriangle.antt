@@ -7,6 +7,7 @@ use lib.Ieee.{binary32, round, of_bits}
 use Rattle.sheet.specs.declared.Point.{Point}
 use Rattle.singles.specs.Singles.{single, read}
 use Rattle.cutter.specs.declared.machines.Machine.TheVariants.{Flatbed, RollFeeder}
+use Rattle.cutter.specs.declared.machines.Place.{Place}
 use Rattle.cutter.specs.declared.blade.Instruction.{Instruction}
 use Rattle.cutter.specs.declared.blade.Instruction.TheVariants.{Travel, Cut, Lift}
 use Rattle.cutter.specs.Places.{millimetres_of, place_for, point_at}
@@ -19,11 +20,14 @@ triangle : List Outline
 triangle = record { start = point 0 0; heads = point 4 2 ∷ point 1 5 ∷ point 0 0 ∷ [] } ∷ []
 
 -- by the two floats' bits
+place : ℕ → ℕ → Place
+place a b = record { first = of_bits binary32 a; second = of_bits binary32 b }
+
 travel : ℕ → ℕ → Instruction
-travel a b = Travel (of_bits binary32 a) (of_bits binary32 b)
+travel a b = Travel (place a b)
 
 cut : ℕ → ℕ → Instruction
-cut a b = Cut (of_bits binary32 a) (of_bits binary32 b)
+cut a b = Cut (place a b)
 
 flatbed : List Instruction
 flatbed =
@@ -51,5 +55,5 @@ record Worked : Type 0 where
   roll_feeder_back : outlines_read (point_at RollFeeder) roll_feeder ≡ triangle
 
 worked : Worked
-unfolding point triangle travel cut flatbed roll_feeder cuts programme heads_read outlines_read place_for point_at millimetres_of single round read of_bits
+unfolding point triangle place travel cut flatbed roll_feeder cuts programme heads_read outlines_read place_for point_at millimetres_of single round read of_bits
 worked = record { flatbed_is = refl; flatbed_back = refl; roll_feeder_is = refl; roll_feeder_back = refl }

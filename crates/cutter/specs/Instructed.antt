@@ -1,10 +1,8 @@
 -- The k-th instruction of a machine for outlines, or why not (02, M-102): each refusal's number and place, the order of trying, what is promised.
-use Rattle.std.specs.Prelude.{ℕ, zero, suc, ◌≡◌, Bool, true, false, not, ◌&&◌, List, [], ◌∷◌, map, eqb, ltb, ℤ, length, get_or}
+use Rattle.std.specs.Prelude.{ℕ, zero, suc, ◌≡◌, Bool, true, false, not, ◌&&◌, List, [], ◌∷◌, map, eqb, ltb, ℤ, length, get_or, Ok, Err, Result, ⊤}
 use Rattle.laws.specs.Counting.{first}
-use Rattle.sheet.specs.declared.Check.{Check}
-use Rattle.sheet.specs.declared.Check.TheVariants as check
-use Rattle.sheet.specs.declared.TurnAnswer.{TurnAnswer}
-use Rattle.sheet.specs.declared.TurnAnswer.TheVariants as turn
+use Rattle.sheet.specs.declared.Refusal.{Refusal}
+use Rattle.sheet.specs.declared.TurnRefusal.{TurnRefusal}
 use Rattle.sheet.specs.declared.TurnRefusal.TheVariants.{TurnLengths}
 use Rattle.sheet.specs.declared.Point.{Point}
 use Rattle.sheet.specs.Points.{in_range}
@@ -16,8 +14,6 @@ use Rattle.cutter.specs.declared.machines.Machine.{Machine}
 use Rattle.cutter.specs.declared.blade.Instruction.{Instruction}
 use Rattle.cutter.specs.declared.CutRefusal.{CutRefusal}
 use Rattle.cutter.specs.declared.CutRefusal.TheVariants.{Edges, Numbers, TurnsDiffer, HeadNotTail, PastLast}
-use Rattle.cutter.specs.declared.Step.{Step}
-use Rattle.cutter.specs.declared.Step.TheVariants.{Next, Refused}
 use Rattle.cutter.specs.Places.{place_for, point_at, ExactPlace}
 use Rattle.cutter.specs.Programme.{programme, strokes_read, Cuttable}
 use Rattle.cutter.specs.Outlines.{outlines_of, stroke_of, head_not_tail}
@@ -36,10 +32,14 @@ cut_place_of (TurnsDiffer i) = i
 cut_place_of (HeadNotTail e) = e
 cut_place_of PastLast = 0
 
+-- what is answered for k: an instruction, or why not
+abbrev pub Step : Type 0
+Step = Result Instruction CutRefusal
+
 -- 18: the list ends before k
 unfoldable pub kth : List Instruction → ℕ → Step
-kth [] k = Refused PastLast
-kth (i ∷ is) zero = Next i
+kth [] k = Err PastLast
+kth (i ∷ is) zero = Ok i
 kth (i ∷ is) (suc k) = kth is k
 
 -- 11, here: a list that is not as long as the edges
@@ -50,16 +50,16 @@ not_as_long n polygons sequences turns = not (eqb (length polygons) n && (eqb (l
 unfoldable pub turn_differs : List ℕ → List ℕ → ℕ → Bool
 turn_differs turns right i = not (eqb (get_or turns i 0) (get_or right i 0))
 
-abbrev pub after_edges : Check → Step → Step
-after_edges (check.Refused r) rest = Refused (Edges r)
-after_edges check.Passed rest = rest
+abbrev pub after_edges : Result ⊤ Refusal → Step → Step
+after_edges (Err r) rest = Err (Edges r)
+after_edges (Ok _) rest = rest
 
-abbrev pub after_numbers : TurnAnswer → Step → Step
-after_numbers (turn.Refused r) rest = Refused (Numbers r)
-after_numbers (turn.Accepted n) rest = rest
+abbrev pub after_numbers : Result ℕ TurnRefusal → Step → Step
+after_numbers (Err r) rest = Err (Numbers r)
+after_numbers (Ok n) rest = rest
 
 abbrev pub refuse_step : Bool → CutRefusal → Step → Step
-refuse_step true r rest = Refused r
+refuse_step true r rest = Err r
 refuse_step false r rest = rest
 
 abbrev pub refuse_first_step : (ℕ → Bool) → ℕ → (ℕ → CutRefusal) → Step → Step
@@ -90,10 +90,10 @@ instructed m list polygons sequences turns right k =
 pub record Instructs (m : Machine) (list : List ℤ) (polygons sequences turns : List ℕ) (k : ℕ) (r : Step) : Type 0 where
   -- the turn list that the numbers give, where they give one; there is only one (crates/turns, proofs/OneTurnList.antt)
   pub right : List ℕ
-  pub given : (n : ℕ) → turned polygons sequences (length turns) ≡ turn.Accepted n → TurnList (number_lists polygons sequences) right
+  pub given : (n : ℕ) → turned polygons sequences (length turns) ≡ Ok n → TurnList (number_lists polygons sequences) right
   pub answer : r ≡ instructed m list polygons sequences turns right k
   -- places are exact
   pub exact : (p : Point) → in_range p ≡ true → ExactPlace m p (place_for m p)
   -- and where an instruction is given, what all of them together are good for; read back, they are the edges in turn, each with its tail and its head
-  pub cuttable : (i : Instruction) → r ≡ Next i → Cuttable (place_for m) (point_at m) (outlines_of list sequences turns)
-  pub edges_back : (i : Instruction) → r ≡ Next i → (here : Point) → strokes_read (point_at m) here (programme (place_for m) (outlines_of list sequences turns)) ≡ map (stroke_of list) turns
+  pub cuttable : (i : Instruction) → r ≡ Ok i → Cuttable (place_for m) (point_at m) (outlines_of list sequences turns)
+  pub edges_back : (i : Instruction) → r ≡ Ok i → (here : Point) → strokes_read (point_at m) here (programme (place_for m) (outlines_of list sequences turns)) ≡ map (stroke_of list) turns

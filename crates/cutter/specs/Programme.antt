@@ -1,6 +1,6 @@
 -- The whole list of instructions for outlines, and the outlines read back from instructions alone (02, M-102). A machine enters only as a way from a
 -- point to a place, and back.
-use Rattle.std.specs.Prelude.{◌≡◌, true, List, [], ◌∷◌, ◌++◌, ◌+◌, Float, length}
+use Rattle.std.specs.Prelude.{◌≡◌, true, List, [], ◌∷◌, ◌++◌, ◌+◌, length}
 use Rattle.sheet.specs.declared.Point.{Point}
 use Rattle.cutter.specs.declared.machines.Place.{Place}
 use Rattle.cutter.specs.declared.blade.Head.{Head}
@@ -26,15 +26,15 @@ programme place (o ∷ os) = travel_to (place o.start) ∷ cuts place o.heads (L
 -- ---- and back: the points cut to before anything else comes
 unfoldable pub heads_read : (Place → Point) → List Instruction → List Point
 heads_read point [] = []
-heads_read point (Travel x y ∷ is) = []
-heads_read point (Cut x y ∷ is) = point (record { first = x; second = y }) ∷ heads_read point is
+heads_read point (Travel p ∷ is) = []
+heads_read point (Cut p ∷ is) = point p ∷ heads_read point is
 heads_read point (Lift ∷ is) = []
 
 -- each travel begins an outline
 unfoldable pub outlines_read : (Place → Point) → List Instruction → List Outline
 outlines_read point [] = []
-outlines_read point (Travel x y ∷ is) = record { start = point (record { first = x; second = y }); heads = heads_read point is } ∷ outlines_read point is
-outlines_read point (Cut x y ∷ is) = outlines_read point is
+outlines_read point (Travel p ∷ is) = record { start = point p; heads = heads_read point is } ∷ outlines_read point is
+outlines_read point (Cut p ∷ is) = outlines_read point is
 outlines_read point (Lift ∷ is) = outlines_read point is
 
 -- an edge as the blade cuts it
@@ -45,8 +45,8 @@ pub record Stroke : Type 0 where
 -- each cut leads on from where the head stands, which is a travel's place or the cut's before
 unfoldable pub strokes_read : (Place → Point) → Point → List Instruction → List Stroke
 strokes_read point here [] = []
-strokes_read point here (Travel x y ∷ is) = strokes_read point (point (record { first = x; second = y })) is
-strokes_read point here (Cut x y ∷ is) = record { tail = here; head = point (record { first = x; second = y }) } ∷ strokes_read point (point (record { first = x; second = y })) is
+strokes_read point here (Travel p ∷ is) = strokes_read point (point p) is
+strokes_read point here (Cut p ∷ is) = record { tail = here; head = point p } ∷ strokes_read point (point p) is
 strokes_read point here (Lift ∷ is) = strokes_read point here is
 
 -- ---- one outline after another: a travel, a cut or more, a lift
@@ -57,16 +57,16 @@ pub data Phase : Type 0 where
 
 abbrev pub Orderly : Phase → List Instruction → Type 0
 Orderly resting [] = Unit
-Orderly resting (Travel x y ∷ is) = Orderly travelled is
-Orderly resting (Cut x y ∷ is) = ⊥
+Orderly resting (Travel p ∷ is) = Orderly travelled is
+Orderly resting (Cut p ∷ is) = ⊥
 Orderly resting (Lift ∷ is) = ⊥
 Orderly travelled [] = ⊥
-Orderly travelled (Travel x y ∷ is) = ⊥
-Orderly travelled (Cut x y ∷ is) = Orderly cutting is
+Orderly travelled (Travel p ∷ is) = ⊥
+Orderly travelled (Cut p ∷ is) = Orderly cutting is
 Orderly travelled (Lift ∷ is) = ⊥
 Orderly cutting [] = ⊥
-Orderly cutting (Travel x y ∷ is) = ⊥
-Orderly cutting (Cut x y ∷ is) = Orderly cutting is
+Orderly cutting (Travel p ∷ is) = ⊥
+Orderly cutting (Cut p ∷ is) = Orderly cutting is
 Orderly cutting (Lift ∷ is) = Orderly resting is
 
 -- what the list is for those who cut by it
@@ -78,7 +78,7 @@ pub record Cuttable (place : Point → Place) (point : Place → Point) (os : Li
   -- no cut without a travel before it, and from there to the lift nothing but cuts ..
   pub orderly : Orderly resting (programme place os)
   -- .. each of which leaves the blade down
-  pub down : (done rest : List Instruction) (x y : Float) → programme place os ≡ done ++ (Cut x y ∷ rest) → (h : Head) → (ran h (done ++ (Cut x y ∷ []))).down ≡ true
+  pub down : (done rest : List Instruction) (p : Place) → programme place os ≡ done ++ (Cut p ∷ rest) → (h : Head) → (ran h (done ++ (Cut p ∷ []))).down ≡ true
   -- after each outline the head stands where it came down, blade up
   pub apart : (before after : List Outline) → os ≡ before ++ after → programme place os ≡ programme place before ++ programme place after
   pub stands : (before after : List Outline) (o : Outline) → os ≡ before ++ (o ∷ after) → (h : Head) → ran h (programme place (before ++ (o ∷ []))) ≡ raised_at (place o.start)

@@ -1,38 +1,19 @@
 // The three instructions, and what each makes of the head.
-ghost use Rattle.std.specs.Prelude.{◌≡◌, true};
-ghost use Rattle.sheet.specs.Points.{in_range};
-ghost use Rattle.cutter.specs.Places.{place_for};
-ghost use Rattle.cutter.specs.Blade.{travel_to, cut_to, advanced};
+ghost use Rattle.std.specs.Prelude.{◌≡◌};
+ghost use Rattle.cutter.specs.Blade.{advanced, head_over};
 
-use crate::machines;
-use crate::machines::Machine;
-use sheet::Point;
+use crate::machines::Place;
 
-#[derive(Clone, Copy)]
+#[derive(Clone, Copy, Debug, PartialEq)]
 pub enum Instruction {
-    Travel(f32, f32),
-    Cut(f32, f32),
+    Travel(Place),
+    Cut(Place),
     Lift,
 }
 
-pub fn travel(machine: Machine, point: Point) -> Instruction
-    requires { in_range point ≡ true }
-    ensures { result ≡ travel_to (place_for machine point) }
-{
-    let place = machines::place_for(machine, point);
-    Instruction::Travel(place.first, place.second)
-}
-
-pub fn cut(machine: Machine, point: Point) -> Instruction
-    requires { in_range point ≡ true }
-    ensures { result ≡ cut_to (place_for machine point) }
-{
-    let place = machines::place_for(machine, point);
-    Instruction::Cut(place.first, place.second)
-}
-
 // Where the head stands, in millimetres, and whether the blade is down.
-#[derive(Clone, Copy)]
+// Two numbers and not a place: 02 asks for a struct of two numbers and a bool (docs/RULES.md, forms, 2).
+#[derive(Clone, Copy, Debug, PartialEq)]
 pub struct Head {
     pub x: f32,
     pub y: f32,
@@ -45,13 +26,22 @@ impl Head {
         ensures { result ≡ advanced self instruction }
     {
         match instruction {
-            Instruction::Travel(x, y) => Head { x, y, down: false },
-            Instruction::Cut(x, y) => Head { x, y, down: true },
+            Instruction::Travel(place) => Head::over(place, false),
+            Instruction::Cut(place) => Head::over(place, true),
             Instruction::Lift => Head {
-                x: self.x,
-                y: self.y,
                 down: false,
+                ..self
             },
+        }
+    }
+
+    fn over(place: Place, down: bool) -> Head
+        ensures { result ≡ head_over place down }
+    {
+        Head {
+            x: place.first,
+            y: place.second,
+            down,
         }
     }
 }

@@ -5,17 +5,36 @@ ghost use Rattle.cutter.specs.Places.{millimetres_of, place_for};
 
 use sheet::Point;
 
-#[derive(Clone, Copy)]
+#[derive(Clone, Copy, Debug, PartialEq, Eq)]
 pub enum Machine {
     Flatbed,
     RollFeeder,
 }
 
 // Two numbers in the machine's own order.
-#[derive(Clone, Copy)]
+#[derive(Clone, Copy, Debug, PartialEq)]
 pub struct Place {
     pub first: f32,
     pub second: f32,
+}
+
+impl Machine {
+    // The flatbed takes x and y, the roll feeder y and then x negated. The whole number is negated, so that zero stays plus zero.
+    pub fn place_for(self, point: Point) -> Place
+        requires { in_range point ≡ true }
+        ensures { result ≡ place_for self point }
+    {
+        match self {
+            Machine::Flatbed => Place {
+                first: millimetres(point.x),
+                second: millimetres(point.y),
+            },
+            Machine::RollFeeder => Place {
+                first: millimetres(point.y),
+                second: millimetres(-point.x),
+            },
+        }
+    }
 }
 
 // v units in millimetres.
@@ -24,31 +43,4 @@ fn millimetres(v: i32) -> f32
     ensures { result ≡ millimetres_of v }
 {
     singles::whole(v) / 64.0
-}
-
-// -v units in millimetres. The whole number is negated, so that zero stays plus zero.
-fn negated(v: i32) -> f32
-    requires { nat_abs v ≤ 1000000 }
-    ensures { result ≡ millimetres_of (neg_ℤ v) }
-{
-    millimetres(0 - v)
-}
-
-// The flatbed takes x and y, the roll feeder y and then x negated.
-pub fn place_for(machine: Machine, point: Point) -> Place
-    requires { in_range point ≡ true }
-    ensures { result ≡ place_for machine point }
-{
-    let x = point.x;
-    let y = point.y;
-    match machine {
-        Machine::Flatbed => Place {
-            first: millimetres(x),
-            second: millimetres(y),
-        },
-        Machine::RollFeeder => Place {
-            first: millimetres(y),
-            second: negated(x),
-        },
-    }
 }

@@ -1,23 +1,22 @@
 -- An answer by its numbers is accepted just where the answer is: only what is accepted has the number 0.
+use Rattle.std.specs.Prelude.{Result, Ok, Err}
 use mathlib.Core.Path.{◌≡◌, refl, sym, ap, ◌∙◌}
 use mathlib.Core.List.{List}
 use mathlib.Core.Logic.{◌↔◌}
 use Prim.Native.Nat.{ℕ}
 use native.Mathlib.Omega.{arith}
-use Rattle.sheet.specs.declared.Answer.{Answer}
-use Rattle.sheet.specs.declared.Answer.TheVariants as answer
 use Rattle.sheet.specs.declared.Refusal.{Refusal}
 use Rattle.sheet.specs.declared.Refusal.TheVariants.{NotWhole, TooMany, ListsDiffer, JournalShort, PastRange, FilmPastRange, EqualEnds, TopFalls, Repeated, Uneven, NotAlternating, NoRow}
 use Rattle.sheet.specs.Answers.{number_of}
 use Rattle.sheet.specs.declared.TurnRefusal.{TurnRefusal}
 use Rattle.sheet.specs.declared.TurnRefusal.TheVariants.{TurnLengths, NoPolygon, PairRepeated, Gap}
-use Rattle.sheet.specs.declared.TurnAnswer.{TurnAnswer}
-use Rattle.sheet.specs.declared.TurnAnswer.TheVariants.{Accepted, Refused}
 use Rattle.sheet.specs.TurnList.{turn_number_of, GoodLists}
 use Rattle.sheet.specs.Sound.{AcceptsExactly}
 use Rattle.desk.specs.declared.Sheet.{Sheet}
 use Rattle.desk.specs.declared.Turned.{Turned}
 use Rattle.desk.specs.Exported.{sheet_from, turned_from}
+use Rattle.sheet.specs.declared.Numbered.{Numbered}
+use Rattle.sheet.specs.Answers.{accepted}
 
 pub refused-not-zero : (r : TurnRefusal) → turn_number_of r ≡ 0 → ⊥
 refused-not-zero TurnLengths q = omega arith
@@ -26,11 +25,11 @@ refused-not-zero (PairRepeated e) q = omega arith
 refused-not-zero (Gap e) q = omega arith
 
 -- refusal 0 with n polygons
-zero-accepted : (a : TurnAnswer) (n : ℕ) → (turned_from a).refusal ≡ 0 → (turned_from a).polygons ≡ n → a ≡ Accepted n
-zero-accepted (Accepted m) n z q = ap Accepted q
-zero-accepted (Refused r) n z q = absurd (refused-not-zero r z)
+zero-accepted : (a : Result ℕ TurnRefusal) (n : ℕ) → (turned_from a).refusal ≡ 0 → (turned_from a).polygons ≡ n → a ≡ Ok n
+zero-accepted (Ok m) n z q = ap Ok q
+zero-accepted (Err r) n z q = absurd (refused-not-zero r z)
 
-pub by-numbers-exactly : {polygons sequences : List ℕ} {turns : ℕ} {a : TurnAnswer} {r : Turned} →
+pub by-numbers-exactly : {polygons sequences : List ℕ} {turns : ℕ} {a : Result ℕ TurnRefusal} {r : Turned} →
     AcceptsExactly polygons sequences turns a →
     r ≡ turned_from a →
     (n : ℕ) →
@@ -56,9 +55,9 @@ sheet-refused (NotAlternating e) q = omega arith
 sheet-refused (NoRow e) q = omega arith
 
 -- refusal 0 is an accepted answer, with these polygons
-sheet-accepted : (a : Answer) → (sheet_from a).refusal ≡ 0 → (peak : ℕ) × (records : ℕ) × (a ≡ answer.Accepted (sheet_from a).polygons peak records)
-sheet-accepted (answer.Accepted p k m) q = (k, m, refl)
-sheet-accepted (answer.Refused r) q = absurd (sheet-refused r q)
+sheet-accepted : (a : Result Numbered Refusal) → (sheet_from a).refusal ≡ 0 → (peak : ℕ) × (records : ℕ) × (a ≡ accepted (sheet_from a).polygons peak records)
+sheet-accepted (Ok v) q = (v.peak, v.records, refl)
+sheet-accepted (Err r) q = absurd (sheet-refused r q)
 
-pub zero-is-accepted : {a : Answer} {r : Sheet} → r ≡ sheet_from a → r.refusal ≡ 0 → (peak : ℕ) × (records : ℕ) × (a ≡ answer.Accepted r.polygons peak records)
+pub zero-is-accepted : {a : Result Numbered Refusal} {r : Sheet} → r ≡ sheet_from a → r.refusal ≡ 0 → (peak : ℕ) × (records : ℕ) × (a ≡ accepted r.polygons peak records)
 zero-is-accepted {a} told q = rw told (sheet-accepted a (ap (λ (x : Sheet). x.refusal) (sym told) ∙ q))

@@ -1,5 +1,6 @@
 -- What is promised of the two calls for an instruction, from what is promised of the instruction: no refusal has the number 0, and for the three lists of
 -- an accepted sheet only 18 is given.
+use Rattle.std.specs.Prelude.{Result, Ok, Err}
 use mathlib.Core.Path.{◌≡◌, refl, sym, ap, ◌∙◌, subst}
 use mathlib.Core.Bool.{cond}
 use mathlib.Core.List.{List}
@@ -19,8 +20,7 @@ use Rattle.cutter.specs.declared.blade.Instruction.{Instruction}
 use Rattle.cutter.specs.declared.blade.Instruction.TheVariants.{Travel, Cut, Lift}
 use Rattle.cutter.specs.declared.CutRefusal.{CutRefusal}
 use Rattle.cutter.specs.declared.CutRefusal.TheVariants.{Edges, Numbers, TurnsDiffer, HeadNotTail, PastLast}
-use Rattle.cutter.specs.declared.Step.{Step}
-use Rattle.cutter.specs.declared.Step.TheVariants.{Next, Refused}
+use Rattle.cutter.specs.declared.CutRefusal.{CutRefusal}
 use Rattle.cutter.specs.Instructed.{cut_number_of, Instructs}
 use Rattle.cutter.proofs.OnlyPastLast.{runs, past, not-past}
 use Rattle.desk.specs.declared.Sheet.{Sheet}
@@ -39,18 +39,18 @@ cut-refused (TurnsDiffer i) q = omega arith
 cut-refused (HeadNotTail e) q = omega arith
 cut-refused PastLast q = omega arith
 
-zero-is-next : (s : Step) → (cut_from s).refusal ≡ 0 → (i : Instruction) × (s ≡ Next i)
-zero-is-next (Next i) q = (i, refl)
-zero-is-next (Refused r) q = absurd (cut-refused r q)
+zero-is-next : (s : Result Instruction CutRefusal) → (cut_from s).refusal ≡ 0 → (i : Instruction) × (s ≡ Ok i)
+zero-is-next (Ok i) q = (i, refl)
+zero-is-next (Err r) q = absurd (cut-refused r q)
 
-next-is-zero : (i : Instruction) → (cut_from (Next i)).refusal ≡ 0
-next-is-zero (Travel x y) = refl
-next-is-zero (Cut x y) = refl
+next-is-zero : (i : Instruction) → (cut_from (Ok i)).refusal ≡ 0
+next-is-zero (Travel p) = refl
+next-is-zero (Cut p) = refl
 next-is-zero Lift = refl
 
 -- ---- the lists of an accepted sheet
 module _ {m : Machine} {turns : List ℕ} {k : ℕ} {l : Lent} {before : List ℕ} {y : Left Sheet} (E : Exports l before y turns) (zero : y.answer.refusal ≡ 0)
-    {s : Step} (I : Instructs m l.list y.polygons y.sequences turns k s) where
+    {s : Result Instruction CutRefusal} (I : Instructs m l.list y.polygons y.sequences turns k s) where
   only-past : (cut_from s).refusal ≡ cond (ltb k (length turns + 2 * y.answer.polygons)) 0 18
   only-past =
       let A = accepted-sheet E zero in
@@ -64,13 +64,13 @@ module _ {m : Machine} {turns : List ℕ} {k : ℕ} {l : Lent} {before : List �
       ⊎_elim
       (λ h.
       let i = not-past l.list y.polygons y.sequences turns passed p q A.cut.never_refused A.cut.turn_list k m joined I h in
-      rw (lt-ltb k (length turns + 2 * y.answer.polygons) h) (ap (λ (x : Step). (cut_from x).refusal) i.1 ∙ next-is-zero i.0))
+      rw (lt-ltb k (length turns + 2 * y.answer.polygons) h) (ap (λ (x : Result Instruction CutRefusal). (cut_from x).refusal) i.1 ∙ next-is-zero i.0))
       (λ h.
       let e = past l.list y.polygons y.sequences turns passed p q A.cut.never_refused A.cut.turn_list k m joined I h in
-      rw (le-ltb k (length turns + 2 * y.answer.polygons) h) (ap (λ (x : Step). (cut_from x).refusal) e))
+      rw (le-ltb k (length turns + 2 * y.answer.polygons) h) (ap (λ (x : Result Instruction CutRefusal). (cut_from x).refusal) e))
       (lt-or-le k (length turns + 2 * y.answer.polygons))
 
-pub told : {m : Machine} {list : List ℤ} {polygons sequences turns : List ℕ} {k : ℕ} {s : Step} {r : desk.Cut} → Instructs m list polygons sequences turns k s → r ≡ cut_from s → Told m list polygons sequences turns k r
+pub told : {m : Machine} {list : List ℤ} {polygons sequences turns : List ℕ} {k : ℕ} {s : Result Instruction CutRefusal} {r : desk.Cut} → Instructs m list polygons sequences turns k s → r ≡ cut_from s → Told m list polygons sequences turns k r
 told {m} {list} {polygons} {sequences} {turns} {k} {s} I q = record {
   inner = s;
   promised = I;

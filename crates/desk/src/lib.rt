@@ -6,10 +6,10 @@ ghost use Rattle.numbering.specs.Outcome.{lent, left_as};
 ghost use Rattle.desk.specs.Exported.{sheet_from, turned_from, Exports, ReadTurns};
 ghost use Rattle.desk.specs.Told.{instruction_told, cut_from, Told};
 
-use cutter::Step;
+use cutter::CutRefusal;
 use cutter::blade::Instruction;
 use cutter::machines::Machine;
-use sheet::{Answer, TurnAnswer};
+use sheet::{Numbered, Refusal, TurnRefusal};
 
 // What a sheet's call answers. Refusal 0: accepted, with place 0. Refused: the other three are 0.
 #[repr(C)]
@@ -44,91 +44,90 @@ pub struct Cut {
 }
 
 // The answer of a sheet's call by its numbers.
-fn sheet_of(answer: Answer) -> Sheet
-    ensures { result ≡ sheet_from answer }
-{
-    match answer {
-        Answer::Accepted {
-            polygons,
-            peak,
-            records,
-        } => Sheet {
-            refusal: 0,
-            place: 0,
-            polygons,
-            peak,
-            records,
-        },
-        Answer::Refused(refusal) => Sheet {
-            refusal: refusal.number(),
-            place: refusal.place(),
-            polygons: 0,
-            peak: 0,
-            records: 0,
-        },
+impl From<Result<Numbered, Refusal>> for Sheet {
+    ghost from_gives = { λ answer sheet. sheet ≡ sheet_from answer };
+
+    fn from(answer: Result<Numbered, Refusal>) -> Sheet {
+        match answer {
+            Ok(
+                Numbered {
+                    polygons,
+                    peak,
+                    records,
+                },
+            ) => Sheet {
+                refusal: 0,
+                place: 0,
+                polygons,
+                peak,
+                records,
+            },
+            Err(refusal) => Sheet {
+                refusal: refusal.number(),
+                place: refusal.place(),
+                polygons: 0,
+                peak: 0,
+                records: 0,
+            },
+        }
     }
 }
 
 // The answer of the turn list by its numbers.
-fn turned_of(answer: TurnAnswer) -> Turned
-    ensures { result ≡ turned_from answer }
-{
-    match answer {
-        TurnAnswer::Accepted(polygons) => Turned {
-            refusal: 0,
-            place: 0,
-            polygons,
-        },
-        TurnAnswer::Refused(refusal) => Turned {
-            refusal: refusal.number(),
-            place: refusal.place(),
-            polygons: 0,
-        },
+impl From<Result<u32, TurnRefusal>> for Turned {
+    ghost from_gives = { λ answer turned. turned ≡ turned_from answer };
+
+    fn from(answer: Result<u32, TurnRefusal>) -> Turned {
+        match answer {
+            Ok(polygons) => Turned {
+                refusal: 0,
+                place: 0,
+                polygons,
+            },
+            Err(refusal) => Turned {
+                refusal: refusal.number(),
+                place: refusal.place(),
+                polygons: 0,
+            },
+        }
     }
 }
 
 // An instruction by its numbers.
-fn instruction_told(instruction: Instruction) -> Cut
-    ensures { result ≡ instruction_told instruction }
-{
-    match instruction {
-        Instruction::Travel(x, y) => Cut {
+impl From<Instruction> for Cut {
+    ghost from_gives = { λ instruction cut. cut ≡ instruction_told instruction };
+
+    fn from(instruction: Instruction) -> Cut {
+        let (what, x, y) = match instruction {
+            Instruction::Travel(place) => (0, place.first, place.second),
+            Instruction::Cut(place) => (1, place.first, place.second),
+            Instruction::Lift => (2, 0.0, 0.0),
+        };
+        Cut {
             refusal: 0,
             place: 0,
-            what: 0,
+            what,
             x,
             y,
-        },
-        Instruction::Cut(x, y) => Cut {
-            refusal: 0,
-            place: 0,
-            what: 1,
-            x,
-            y,
-        },
-        Instruction::Lift => Cut {
-            refusal: 0,
-            place: 0,
-            what: 2,
-            x: 0.0,
-            y: 0.0,
-        },
+        }
     }
 }
 
 // The answer of an instruction's call by its numbers.
-fn cut_of(step: Step) -> Cut
-    ensures { result ≡ cut_from step }
-{
-    match step {
-        Step::Next(instruction) => instruction_told(instruction),
-        Step::Refused(refusal) => Cut {
-            refusal: refusal.number(),
-            place: refusal.place(),
-            what: 0,
-            x: 0.0,
-            y: 0.0,
-        },
+impl From<Result<Instruction, CutRefusal>> for Cut {
+    ghost from_gives = { λ answer cut. cut ≡ cut_from answer };
+
+    fn from(answer: Result<Instruction, CutRefusal>) -> Cut {
+        match answer {
+            Ok(instruction) => Cut::from(instruction),
+            Err(refusal) => Cut {
+                refusal: refusal.number(),
+                place: refusal.place(),
+                what: 0,
+                x: 0.0,
+                y: 0.0,
+            },
+        }
     }
 }
 
@@ -144,7 +143,7 @@ pub extern "C" fn outline_assemble(
 ) -> Sheet
     ensures { Exports (lent edges.now polygons.old sequences.old (length turns.old) journal.old rows.old) turns.old (left_as result polygons.new sequences.new journal.new rows.new) turns.new }
 {
-    sheet_of(assembly::assemble(edges, polygons, sequences, turns, journal, rows))
+    Sheet::from(assembly::assemble(edges, polygons, sequences, turns, journal, rows))
 }
 
 // Puts the places of all edges in order, polygon by polygon, from numbers that were read from elsewhere.
@@ -152,7 +151,7 @@ pub extern "C" fn outline_assemble(
 pub extern "C" fn outline_turns(polygons: &[u32], sequences: &[u32], turns: &mut [u32]) -> Turned
     ensures { ReadTurns polygons.now sequences.now turns.old turns.new result }
 {
-    turned_of(turns::turn_list(polygons, sequences, turns))
+    Turned::from(turns::turn_list(polygons, sequences, turns))
 }
 
 // The k-th instruction of the flatbed, counted from 0, for a sheet whose edges are numbered and put in turn order.
@@ -166,7 +165,7 @@ pub extern "C" fn outline_flatbed(
 ) -> Cut
     ensures { Told Machine.Flatbed edges.now polygons.now sequences.now turns.now k result }
 {
-    cut_of(cutter::instruction(Machine::Flatbed, edges, polygons, sequences, turns, k))
+    Cut::from(cutter::instruction(Machine::Flatbed, edges, polygons, sequences, turns, k))
 }
 
 // The k-th instruction of the roll feeder, likewise.
@@ -180,5 +179,5 @@ pub extern "C" fn outline_roll_feeder(
 ) -> Cut
     ensures { Told Machine.RollFeeder edges.now polygons.now sequences.now turns.now k result }
 {
-    cut_of(cutter::instruction(Machine::RollFeeder, edges, polygons, sequences, turns, k))
+    Cut::from(cutter::instruction(Machine::RollFeeder, edges, polygons, sequences, turns, k))
 }

@@ -1,7 +1,8 @@
 -- The words of the ends. A word gives its end's place, the edge's kind there and the edge back. At its top an edge comes from below and at its bottom
 -- from above, so the words that are packed are those of all the ends, each once; and so are the words that the sort leaves.
-use Rattle.std.proofs.Common.{◌≡◌, ℕ, ◌+◌, ◌-◌, ◌*◌, ◌/◌, ◌%◌, ◌<◌, ◌≤◌, min, max, Bool, true, false, cond, ltb, ◌⊎◌, List, length, get_or, set, ℤ, sym, refl, ap, ◌∙◌, inl, inr, ⊎_elim, arith, length-set, get_or-set_other, get_or-set_same, ltb-false, ltb-true, le-ltb, lt-ltb, eq-eqb}
+use Rattle.std.proofs.Common.{◌≡◌, ℕ, ◌+◌, ◌-◌, ◌*◌, ◌/◌, ◌%◌, ◌<◌, ◌≤◌, min, max, Bool, true, false, cond, ltb, ◌⊎◌, List, get_or, ℤ, sym, refl, ap, ◌∙◌, inl, inr, ⊎_elim, arith, ltb-false, ltb-true, le-ltb, lt-ltb, eq-eqb}
 use lib.Signed.{mag}
+use Rattle.std.specs.Int.{from_bool}
 use Rattle.laws.specs.Counting.{bit}
 use Rattle.laws.proofs.Deciding.{lt-or-le, not-both}
 use Rattle.sheet.specs.declared.Point.{Point}
@@ -27,6 +28,11 @@ from-small above = omega arith
 pub way-small : (w : Way) → way_number w ≤ 1
 way-small arriving = omega arith
 way-small leaving = omega arith
+
+-- the library's number of a test
+pub bit-from : (b : Bool) → from_bool b ≡ bit b
+bit-from true = refl
+bit-from false = refl
 
 -- what a word tells
 module _ (s : List ℤ) (w : Way) (e : ℕ) (small : e < 4096) where
@@ -104,19 +110,6 @@ module _ {s : List ℤ} {n : ℕ} (E : EndsFit s n) (e : ℕ) (l : e < n) where
         by : (u : Bool) → is_below tail head ≡ u → end_word (place_on (edge_at s e).film (cond u tail head)) (2 * bit (ltb (rank head) (rank tail))) e ≡ word_of s (other_way (way_if u)) e
         by true u = rw (le-ltb (rank head) (rank tail) (omega (arith, level tail, level head, higher u)), le-ltb (height_of head) (height_of tail) (omega (arith, higher u)))
         by false u = rw (lt-ltb (rank head) (rank tail) (omega (arith, level tail, level head, lower u)), le-ltb (height_of tail) (height_of head) (omega (arith, lower u)))
-
--- one more edge packed
-pub packed_more : {s : List ℤ} {words : List ℕ} {n m top bottom : ℕ} → Packed s words n m → m < n → 2 * n ≤ length words → top ≡ top_word s m → bottom ≡ bottom_word s m → Packed s (set (set words m top) (n + m) bottom) n (m + 1)
-packed_more {words = words} {n} {m} {top} {bottom} P l room t b = record {
-  tops = λ e h. get_or-set_other (set words m top) (n + m) e bottom 0 (λ q. omega arith) ∙ ⊎_elim
-      (λ g. get_or-set_other words m e top 0 (λ q. omega arith) ∙ P.tops e g)
-      (λ g. let q : e ≡ m = omega arith in rw q (get_or-set_same words m top 0 (omega arith) ∙ t))
-      (lt-or-le e m);
-  bottoms = λ e h. ⊎_elim
-      (λ g. get_or-set_other (set words m top) (n + m) (n + e) bottom 0 (λ q. omega arith) ∙ get_or-set_other words m (n + e) top 0 (λ q. omega arith) ∙ P.bottoms e g)
-      (λ g. let q : e ≡ m = omega arith in rw q (get_or-set_same (set words m top) (n + m) bottom 0 (omega (arith, length-set words m top)) ∙ b))
-      (lt-or-le e m);
-}
 
 -- a way is that to the top or that to the bottom
 either : (s : List ℤ) (w : Way) (e : ℕ) → (w ≡ top_way s e) ⊎ (w ≡ other_way (top_way s e))

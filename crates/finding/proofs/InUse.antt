@@ -4,7 +4,7 @@ use mathlib.Core.Path.{◌≡◌, ap, ◌∙◌}
 use mathlib.Core.Bool.{true, not}
 use mathlib.Core.Logic.{◌⊎◌, inl, inr, ⊎_elim}
 use mathlib.Core.List.{List}
-use Prim.Native.Nat.{ℕ, ◌*◌, ◌/◌, ◌%◌, ◌≤◌, ◌<◌, min}
+use Prim.Native.Nat.{ℕ, ◌/◌, ◌%◌, ◌≤◌, ◌<◌, min}
 use native.Mathlib.Omega.{arith}
 use lib.IntN.{ℤ}
 use lib.ListN.{length, get_or, set, replicate, length-set, length-replicate, get_or-replicate, get_or-eq_default}
@@ -18,7 +18,7 @@ use Rattle.steps.specs.declared.Side.{Side}
 use Rattle.steps.specs.Rows.{lowest_free}
 use Rattle.rows.specs.declared.Place.{Place}
 use Rattle.rows.specs.Layout.{HasRow, look_row, opened_in, moved_in, finished_in, freed_in}
-use Rattle.finding.specs.Free.{low_in, word_at, noted, NotedTo, InUse, taken_in, given_back_in}
+use Rattle.finding.specs.Free.{low_in, word_at, noted, InUse, taken_in, given_back_in}
 use Rattle.rows.proofs.Writing.{OnlyRow, other_row, opened-only, opened-here, moved-only, moved_here, finished-only, finished-here, freed-only}
 
 -- counts with another first word worth a look and another word of row r
@@ -107,10 +107,6 @@ module _ (counts : List ℕ) (r : ℕ) where
   unfolding given_back_in
   given-back-low = changed-low counts r (min (low_in counts) (r / 64)) _
 
-  pub length-given-back : length (given_back_in counts r) ≡ length counts
-  unfolding given_back_in
-  length-given-back = changed-length counts r (min (low_in counts) (r / 64)) _
-
   pub given-back-keeps : (i : ℕ) → i < 2 → get_or (given_back_in counts r) i 0 ≡ get_or counts i 0
   unfolding given_back_in
   given-back-keeps = changed-keeps counts r (min (low_in counts) (r / 64)) _
@@ -131,10 +127,6 @@ unfolding lowest_free
 below-lowest rows peak q l = not-false _ (first-least (λ k. not (look_row rows k).used) peak q l)
 
 module _ {counts : List ℕ} {rows : List ℤ} (I : InUse counts rows) where
-  -- all rows are in use up to one to which they are noted
-  pub noted-in-use : (f : ℕ) → NotedTo counts f → (q : ℕ) → q < f → (look_row rows q).used ≡ true
-  noted-in-use f n q l = ⊎_elim (I.below q) (λ h. I.noted_used q (n q l h)) (lt-or-le q (64 * low_in counts))
-
   -- a count that is no note
   pub in-use-counted : (i x : ℕ) → i < 2 → InUse (set counts i x) rows
   in-use-counted i x l = record {

@@ -1,5 +1,6 @@
 -- The index stays good, and a search by it finds what a look at every row finds. Whatever has the tip that is looked for is live in its slot, so where the slot tells one row,
 -- that is the row. A write changes one row; the index then knows its new tips' places, and a mark tells the slot of a tip that it did not know of.
+use Rattle.std.specs.Prelude.{Some, None}
 use mathlib.Core.Path.{◌≡◌, refl, sym, ap, ◌∙◌, subst}
 use mathlib.Core.Bool.{Bool, true, false, not, cond, ◌&&◌}
 use mathlib.Core.Logic.{◌⊎◌, inl, inr, ⊎_elim}
@@ -18,7 +19,6 @@ use Rattle.sheet.proofs.Signed.{same_z-true}
 use Rattle.sheet.proofs.Ranks.{same_point}
 use Rattle.steps.specs.declared.Side.{Side}
 use Rattle.steps.specs.declared.Side.TheVariants.{Rising, Falling}
-use Rattle.steps.specs.declared.Found.TheVariants.{At, Nothing}
 use Rattle.steps.specs.Rows.{other_side, on, Row, Branch}
 use Rattle.steps.specs.SweepUp.{found_below, has_tip}
 use Rattle.steps.proofs.Finding.{found_at}
@@ -122,7 +122,7 @@ module _ {number : Place → ℕ} {index : List ℕ} {rows : List ℤ} {counts :
   sole : slot < length index → Long index counts → (q k : ℕ) → get_or index slot 0 ≡ suc q → (q ≡ 65534 → ⊥) → k < peak_in counts → has k ≡ true → k ≡ q
   sole there long q k e d l t = ⊎_elim (λ o. omega (arith, o, e)) (λ o. absurd (d (omega (arith, o, e)))) (told-there there long k l t)
 
-  nobody : ((k : ℕ) → k < peak_in counts → has k ≡ true → ⊥) → Nothing ≡ found_below has (peak_in counts)
+  nobody : ((k : ℕ) → k < peak_in counts → has k ≡ true → ⊥) → None ≡ found_below has (peak_in counts)
   nobody never = nothing has (peak_in counts) (peak_in counts) (omega arith) (λ k l. ⊎_elim (λ t. absurd (never k l t)) (λ f. f) (true-or-false (has k))) (λ k l h. absurd (omega (arith, l, h)))
 
   by-slot : slot < length index → Long index counts → (o : ℕ) → get_or index slot 0 ≡ o → told o rows (peak_in counts) level side p ≡ found_below has (peak_in counts)
@@ -133,7 +133,7 @@ module _ {number : Place → ℕ} {index : List ℕ} {rows : List ℤ} {counts :
       one : (q ≡ 65534 → ⊥) → told (suc q) rows (peak_in counts) level side p ≡ found_below has (peak_in counts)
       one d = rw (ne_eqb q 65534 d) (by (ltb q (peak_in counts) && has_tip_in rows level side p q) refl)
         where
-          by : (t : Bool) → (ltb q (peak_in counts) && has_tip_in rows level side p q) ≡ t → cond t (At q) Nothing ≡ found_below has (peak_in counts)
+          by : (t : Bool) → (ltb q (peak_in counts) && has_tip_in rows level side p q) ≡ t → cond t (Some q) None ≡ found_below has (peak_in counts)
           by true h =
               let b = both_true (ltb q (peak_in counts)) (has_tip_in rows level side p q) h in
               let below : q < peak_in counts = ltb-true _ _ b.0 in
@@ -166,16 +166,16 @@ found-by-number {index = index} {rows} {counts} level side p I k place = ⊎_eli
 
 -- what is found has the tip, and lies below the peak
 module _ (rows : List ℤ) (level : ℕ) (side : Side) (p : Place) (peak q : ℕ) where
-  pub told_at : (o : ℕ) → told o rows peak level side p ≡ At q → (has_tip_in rows level side p q ≡ true) × (q < peak)
+  pub told_at : (o : ℕ) → told o rows peak level side p ≡ Some q → (has_tip_in rows level side p q ≡ true) × (q < peak)
   unfolding told look_at
   told_at zero e = let z : ◌≡◌ {A = ℕ} 0 1 = cc in absurd (omega arith)
   told_at (suc m) e = by (eqb m 65534) e
     where
-      by : (t : Bool) → cond t (found_below (has_tip_in rows level side p) peak) (look_at rows peak level side p m) ≡ At q → (has_tip_in rows level side p q ≡ true) × (q < peak)
+      by : (t : Bool) → cond t (found_below (has_tip_in rows level side p) peak) (look_at rows peak level side p m) ≡ Some q → (has_tip_in rows level side p q ≡ true) × (q < peak)
       by true h = let f = found_at (has_tip_in rows level side p) peak q h in (f.1, f.0)
       by false h = look (ltb m peak && has_tip_in rows level side p m) refl h
         where
-          look : (t : Bool) → (ltb m peak && has_tip_in rows level side p m) ≡ t → cond t (At m) Nothing ≡ At q → (has_tip_in rows level side p q ≡ true) × (q < peak)
+          look : (t : Bool) → (ltb m peak && has_tip_in rows level side p m) ≡ t → cond t (Some m) None ≡ Some q → (has_tip_in rows level side p q ≡ true) × (q < peak)
           look true t h =
               let b = both_true (ltb m peak) (has_tip_in rows level side p m) t in
               let s : m ≡ q = cc in

@@ -11,13 +11,9 @@ use borrow.Author.Tests.{eq-eqb}
 use Rattle.laws.specs.Digits.{digit}
 use Rattle.laws.proofs.Deciding.{lt-or-le}
 use Rattle.laws.proofs.Digits.{digit-le, digit-of-ones, digit-complement, digit-trailing}
-use Rattle.finding.specs.Free.{low_in, noted, NotedTo}
+use Rattle.finding.specs.Free.{noted, NotedTo}
 
 module _ (counts : List ℕ) where
-  -- no word is passed at the start
-  pub noted-none : (w : ℕ) → w ≤ low_in counts → NotedTo counts (64 * w)
-  noted-none w l q h from = absurd (omega arith)
-
   module _ (w : ℕ) (before : NotedTo counts (64 * w)) where
     abbrev word : ℕ
     word = get_or counts (3 + w) 0

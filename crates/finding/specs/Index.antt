@@ -1,16 +1,16 @@
 -- The index beside the rows, which spares searches. Places have numbers, any that tell them apart well. The index has six numbers for each k: four slots of the place with
 -- the number k, for rising and for falling tips, of level 0 and of the levels above it; then the numbers of the places where row k has its tips. A slot tells the row that
 -- has such a tip: 0 for none, r + 1 for row r, or that it is crowded, and then every row has to be looked at.
-use Rattle.std.specs.Prelude.{ℕ, zero, suc, ◌+◌, ◌*◌, ◌/◌, ◌≤◌, ◌<◌, ◌≡◌, Bool, true, false, not, cond, ◌&&◌, ◌||◌, ◌⊎◌, List, eqb, ltb, leb, ℤ, length, get_or, set}
+use Rattle.std.specs.Prelude.{ℕ, zero, suc, ◌+◌, ◌*◌, ◌/◌, ◌≤◌, ◌<◌, ◌≡◌, Bool, true, false, not, cond, ◌&&◌, ◌||◌, ◌⊎◌, List, eqb, ltb, leb, ℤ, length, get_or, set, Option, Some, None}
 use Rattle.steps.specs.declared.Side.{Side}
 use Rattle.steps.specs.declared.Side.TheVariants.{Rising, Falling}
 use Rattle.steps.specs.Rows.{on}
 use Rattle.rows.specs.declared.Place.{Place}
-use Rattle.steps.specs.declared.Found.{Found}
-use Rattle.steps.specs.declared.Found.TheVariants.{At, Nothing}
 use Rattle.steps.specs.SweepUp.{found_below}
 use Rattle.rows.specs.Layout.{look_row, has_tip_in}
 use Rattle.finding.specs.Free.{peak_in, InUse}
+use Rattle.finding.specs.declared.index.Told.{Told}
+use Rattle.finding.specs.declared.index.Told.TheVariants.{Nobody, Row, Crowded}
 
 abbrev pub crowded : ℕ
 crowded = 65535
@@ -52,6 +52,16 @@ live_in rows index side i q = live rows q side && eqb (slot_of (look_row rows q)
 abbrev pub row_owner : ℕ → ℕ
 row_owner r = cond (ltb r 65534) (r + 1) crowded
 
+-- what a number in a slot tells, and the number that tells it
+abbrev pub told_by : ℕ → Told
+told_by zero = Nobody
+told_by (suc q) = cond (eqb q 65534) Crowded (Row q)
+
+abbrev pub number_told : Told → ℕ
+number_told Nobody = 0
+number_told (Row r) = row_owner r
+number_told Crowded = crowded
+
 -- whether slot i, which told a number before, is crowded once row r has a tip there too: it was, or it told another row that is live there
 unfoldable pub crowds : List ℤ → List ℕ → Side → ℕ → ℕ → ℕ → Bool
 crowds rows index side i r zero = false
@@ -61,16 +71,12 @@ unfoldable pub marked_in : List ℤ → List ℕ → ℕ → Side → ℕ → �
 marked_in rows index level side k r =
     set index (slot_of level side k) (cond (crowds rows index side (slot_of level side k) r (get_or index (slot_of level side k) 0)) crowded (row_owner r))
 
--- what a search gives as a number: a row, or the largest number for nothing
-abbrev pub found_by : ℕ → Found
-found_by r = cond (eqb r 18446744073709551615) Nothing (At r)
-
 -- what a search finds by what a slot tells: nothing, the row that it tells where that has the tip, or, in a crowded slot, the first row below the peak that has it
-unfoldable pub look_at : List ℤ → ℕ → ℕ → Side → Place → ℕ → Found
-look_at rows peak level side p r = cond (ltb r peak && has_tip_in rows level side p r) (At r) Nothing
+unfoldable pub look_at : List ℤ → ℕ → ℕ → Side → Place → ℕ → Option ℕ
+look_at rows peak level side p r = cond (ltb r peak && has_tip_in rows level side p r) (Some r) None
 
-unfoldable pub told : ℕ → List ℤ → ℕ → ℕ → Side → Place → Found
-told zero rows peak level side p = Nothing
+unfoldable pub told : ℕ → List ℤ → ℕ → ℕ → Side → Place → Option ℕ
+told zero rows peak level side p = None
 told (suc q) rows peak level side p = cond (eqb q 65534) (found_below (has_tip_in rows level side p) peak) (look_at rows peak level side p q)
 
 abbrev pub Owns : ℕ → ℕ → Type 0

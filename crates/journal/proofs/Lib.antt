@@ -1,3 +1,3 @@
 -- The laws that the proofs of the functions of journal, and of the crates above, stand on.
-pub mod Signs
 pub mod Writing
+pub mod Numbers

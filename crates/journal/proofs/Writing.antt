@@ -30,13 +30,14 @@ unfolding chain_in row_number
 chain_back (in_row r) h = let e : fitting r ≡ r = omega arith in ap in_row e
 chain_back closing h = refl
 
-module _ (s : List ℤ) (k : ℕ) (e : Record) where
-  abbrev numbers : List ℤ
-  numbers = pos (fitting e.level) ∷ pos (fitting e.name) ∷ row_number e.chain ∷ e.offset ∷ []
+-- the numbers that are stored
+abbrev pub numbers : Record → List ℤ
+numbers e = pos (fitting e.level) ∷ pos (fitting e.name) ∷ row_number e.chain ∷ e.offset ∷ []
 
+module _ (s : List ℤ) (k : ℕ) (e : Record) where
   pub length-written : length (written_in s k e) ≡ length s
   unfolding written_in
-  length-written = length-sets s (numbers_per_record * k) numbers
+  length-written = length-sets s (numbers_per_record * k) (numbers e)
 
   pub written-here : HasRecord s k → Short e → record_at (written_in s k e) k ≡ e
   unfolding record_at written_in natural_part
@@ -54,8 +55,8 @@ module _ (s : List ℤ) (k : ℕ) (e : Record) where
         chain_back e.chain h.chain,
       )
     where
-      at : (j : ℕ) → j < 4 → get_or (written_in s k e) (numbers_per_record * k + j) (pos 0) ≡ get_or numbers j (pos 0)
-      at j l = get_or-sets-in (pos 0) numbers s (numbers_per_record * k) j l has
+      at : (j : ℕ) → j < 4 → get_or (written_in s k e) (numbers_per_record * k + j) (pos 0) ≡ get_or (numbers e) j (pos 0)
+      at j l = get_or-sets-in (pos 0) (numbers e) s (numbers_per_record * k) j l has
 
   pub written-elsewhere : (j : ℕ) → (j ≡ k → ⊥) → record_at (written_in s k e) j ≡ record_at s j
   unfolding record_at written_in
@@ -64,4 +65,4 @@ module _ (s : List ℤ) (k : ℕ) (e : Record) where
       rw (rw zeroth at (same 0 (omega arith)), same 1 (omega arith), same 2 (omega arith), same 3 (omega arith))
     where
       same : (i : ℕ) → i < 4 → get_or (written_in s k e) (numbers_per_record * j + i) (pos 0) ≡ get_or s (numbers_per_record * j + i) (pos 0)
-      same i l = get_or-sets-other (pos 0) numbers s (numbers_per_record * k) (numbers_per_record * j + i) (⊎_elim (λ b. inl (omega arith)) (λ b. inr (omega (arith, d))) (lt-or-le j k))
+      same i l = get_or-sets-other (pos 0) (numbers e) s (numbers_per_record * k) (numbers_per_record * j + i) (⊎_elim (λ b. inl (omega arith)) (λ b. inr (omega (arith, d))) (lt-or-le j k))

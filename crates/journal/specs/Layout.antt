@@ -1,10 +1,8 @@
 -- How records lie in a slice of signed numbers, record k in the four from 4 k on: level, name, row (below 0 for a closing edge), offset.
 -- A level, name or row that needs more than 31 bits is written as the largest number of 31 bits, so that every record can be written; the offset
 -- is signed already and stands as it is.
-use Rattle.std.specs.Prelude.{ℕ, ◌+◌, ◌*◌, ◌/◌, ◌≤◌, ◌<◌, min, List, [], ◌∷◌, ℤ, pos, negsuc, length, get_or}
+use Rattle.std.specs.Prelude.{ℕ, ◌+◌, ◌*◌, ◌/◌, ◌≤◌, ◌<◌, min, List, [], ◌∷◌, ℤ, pos, negsuc, length, get_or, Option, Some, None}
 use Rattle.std.proofs.lemmas.List.Edits.{sets}
-use Rattle.steps.specs.declared.Found.{Found}
-use Rattle.steps.specs.declared.Found.TheVariants.{At, Nothing}
 use Rattle.steps.specs.SweepDown.{natural_part}
 use Rattle.steps.specs.Rows.{Chain, in_row, closing, Record, Journal}
 use Rattle.steps.specs.Swept.{numbers_per_record}
@@ -29,13 +27,13 @@ row_number (in_row r) = pos (fitting r)
 row_number closing = negsuc 0
 
 -- a chain as the code answers it, the row or none, and that the row's name has 31 bits
-abbrev pub chain_of : Found → Chain
-chain_of (At r) = in_row r
-chain_of Nothing = closing
+abbrev pub chain_of : Option ℕ → Chain
+chain_of (Some r) = in_row r
+chain_of None = closing
 
-abbrev pub Short : Found → Type 0
-Short (At r) = r < 2147483648
-Short Nothing = Unit
+abbrev pub Short : Option ℕ → Type 0
+Short (Some r) = r < 2147483648
+Short None = Unit
 
 unfoldable pub record_at : List ℤ → ℕ → Record
 record_at s k =

@@ -1,15 +1,11 @@
 // Records in the lent journal. Only this crate knows how a record lies in its four numbers: specs/Layout.antt says it, and writing and reading here
 // are proved equal to what the steps do with a journal laid out so.
-#![tactic(auto)]
+#![tactic(auto, using(crate::proofs::Numbers::reads), unfolding(crate::specs::Layout::record_at, crate::specs::Layout::chain_in, crate::specs::Layout::row_number, steps::specs::SweepDown::natural_part))]
 
-ghost use Rattle.std.specs.Prelude.{◌≡◌, [], ◌∷◌, ◌++◌, ◌-◌, ◌*◌, ◌≤◌, ◌<◌, pos, length, take, replicate};
-ghost use Rattle.std.proofs.lemmas.List.Edits.{sets};
-ghost use Rattle.steps.specs.Rows.{in_row, closing};
+ghost use Rattle.std.specs.Prelude.{◌≡◌, ◌++◌, ◌-◌, ◌*◌, ◌≤◌, ◌<◌, pos, length, take, replicate};
 ghost use Rattle.steps.specs.SweepDown.{natural_part};
-ghost use Rattle.journal.specs.Layout.{records_in, HasRecord, fitting, chain_in, chain_of, Short, record_at, written_in};
+ghost use Rattle.journal.specs.Layout.{records_in, HasRecord, fitting, chain_in, chain_of, row_number, Short, record_at, written_in};
 ghost use Rattle.steps.specs.Swept.{numbers_per_record};
-
-use steps::Found;
 
 // How many numbers a record has.
 const NUMBERS: usize = 4;
@@ -25,59 +21,39 @@ pub fn records_in(journal: &[i32]) -> usize
 pub fn fit(n: usize) -> i32
     ensures { result ≡ pos (fitting n) }
 {
-    if n < 2_147_483_647 {
-        return n as i32;
-    }
-    2_147_483_647
+    i32::try_from(n).unwrap_or(i32::MAX)
 }
 
-// A signed number as a natural one, 0 for one below 0.
+// A signed number as a natural one, 0 for one below 0. A cast: what is not below 0 loses nothing.
 pub fn natural(z: i32) -> u32
     ensures { (result ≡ natural_part z) × (result < 2147483648) }
 {
-    if z < 0 {
-        return 0;
-    }
-    z as u32
+    z.max(0) as u32
 }
 
-fn write(journal: &mut [i32], k: usize, level: i32, name: i32, row: i32, offset: i32)
-    requires { HasRecord journal.old k }
-    ensures { journal.new ≡ sets journal.old (numbers_per_record * k) (level ∷ name ∷ row ∷ offset ∷ []) }
+// The number that stands for a chain's row; -1 where there is none.
+fn row_number(chain: Option<usize>) -> i32
+    ensures { result ≡ row_number (chain_of chain) }
 {
-    let b = NUMBERS * k;
-    journal[b] = level;
-    journal[b + 1] = name;
-    journal[b + 2] = row;
-    journal[b + 3] = offset;
+    chain.map_or(-1, fit)
 }
 
-// The record of an edge that is attached to a row's chain.
-pub fn write_attached(
+// The record of an edge that is attached to a row's chain; none where the edge closes an outline. Its four numbers go one by one, since only this function takes them
+// together, and records go by their number in the journal, as rows do in their slice.
+pub fn write(
     journal: &mut [i32],
     k: usize,
     level: u32,
     name: usize,
-    row: usize,
+    chain: Option<usize>,
     offset: i32,
 )
     requires { HasRecord journal.old k }
-    ensures { journal.new ≡ written_in journal.old k (record { level = level; name = name; chain = in_row row; offset = offset }) }
+    ensures { journal.new ≡ written_in journal.old k (record { level = level; name = name; chain = chain_of chain; offset = offset }) }
 {
-    let l = fit(level as usize);
-    let n = fit(name);
-    let r = fit(row);
-    write(journal, k, l, n, r, offset);
-}
-
-// The record of a closing edge.
-pub fn write_closing(journal: &mut [i32], k: usize, level: u32, name: usize, offset: i32)
-    requires { HasRecord journal.old k }
-    ensures { journal.new ≡ written_in journal.old k (record { level = level; name = name; chain = closing; offset = offset }) }
-{
-    let l = fit(level as usize);
-    let n = fit(name);
-    write(journal, k, l, n, -1, offset);
+    let record = [fit(level as usize), fit(name), row_number(chain), offset];
+    let b = NUMBERS * k;
+    journal[b..b + NUMBERS].copy_from_slice(&record);
 }
 
 pub fn level_at(journal: &[i32], k: usize) -> u32
@@ -95,17 +71,14 @@ pub fn name_at(journal: &[i32], k: usize) -> usize
 }
 
 // The row that a number names, or none.
-fn chain_in(z: i32) -> Found
+fn chain_in(z: i32) -> Option<usize>
     ensures { (chain_of result ≡ chain_in z) × Short result }
 {
-    if z < 0 {
-        return Found::Nothing;
-    }
-    Found::At(z as usize)
+    usize::try_from(z).ok()
 }
 
 // The row of a record's chain; none where the record closes an outline.
-pub fn chain_at(journal: &[i32], k: usize) -> Found
+pub fn chain_at(journal: &[i32], k: usize) -> Option<usize>
     requires { HasRecord journal.now k }
     ensures { (chain_of result ≡ (record_at journal.now k).chain) × Short result }
 {
@@ -124,9 +97,5 @@ pub fn zero_from(journal: &mut [i32], k: usize)
     requires { numbers_per_record * k ≤ length journal.old }
     ensures { journal.new ≡ take (numbers_per_record * k) journal.old ++ replicate (length journal.old - numbers_per_record * k) (pos 0) }
 {
-    let mut i = NUMBERS * k;
-    while i < journal.len() {
-        journal[i] = 0;
-        i += 1;
-    }
+    journal[NUMBERS * k..].fill(0);
 }

@@ -14,14 +14,15 @@ pub mod Tests
 pub mod Either
 pub mod Once
 pub mod Searching
+pub mod Found
 pub mod Halving
 pub mod Filling
 pub mod Moving
 pub mod Sets
-pub mod Zeros
 pub mod Listing
 pub mod Bits
 pub mod Digits
 pub mod Integers
 pub mod Ring
 pub mod Magnitudes
+pub mod Positions

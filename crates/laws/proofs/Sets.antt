@@ -1,29 +1,17 @@
--- A run of stores: what straight-line code leaves is one, the stored numbers stand where they were stored, and every other number is what it was.
+-- A run of stores: what a copy leaves is one, the stored numbers stand where they were stored, and every other number is what it was.
 use mathlib.Core.Path.{◌≡◌, refl, ◌∙◌}
 use mathlib.Core.Logic.{◌⊎◌, inl, inr, ⊎_elim}
 use mathlib.Core.List.{List, [], ◌∷◌}
 use Prim.Native.Nat.{ℕ, zero, suc, ◌+◌, ◌≤◌, ◌<◌}
 use native.Mathlib.Omega.{arith}
 use lib.ListN.{length, get_or, set, length-set}
-use lib.Seq.{sets, get_or-set_same, get_or-set_other}
+use lib.Seq.{sets, sets-eq, get_or-set_same, get_or-set_other}
+use borrow.Rule.Slice.PartMut.{put_mid}
+use Rattle.std.proofs.lemmas.Grind.{common_steps}
 
--- stores at b + k, b + k + 1 and so on, as the code writes the places
-abbrev pub stores : {A : Type 0} → List A → ℕ → ℕ → List A → List A
-stores l b k [] = l
-stores l b k (a ∷ vs) = stores (set l (b + k) a) b (k + 1) vs
-
-module _ {A : Type 0} where
-  stores-from : (vs l : List A) (b k : ℕ) → stores l b k vs ≡ sets l (b + k) vs
-  stores-from [] l b k = refl
-  stores-from (a ∷ vs) l b k =
-      let e : b + (k + 1) ≡ suc (b + k) = omega arith in
-      rw (stores-from vs (set l (b + k) a) b (k + 1), e)
-
-  -- a store at b, and the others behind it
-  pub stores-are-sets : (l : List A) (b : ℕ) (a : A) (vs : List A) → stores (set l b a) b 1 vs ≡ sets l b (a ∷ vs)
-  stores-are-sets l b a vs =
-      let e : b + 1 ≡ suc b = omega arith in
-      rw (stores-from vs (set l b a) b 1, e)
+-- numbers copied to b are stores from b on
+pub copied-sets : {A : Type 0} (l vs ws : List A) (b n : ℕ) → vs ≡ ws → n ≡ length ws → b + n ≤ length l → put_mid b n l vs ≡ sets l b ws
+copied-sets l vs ws b n e m h = rw (e, sets-eq ws l b (omega arith), m) (grind (arith, common_steps))
 
 module _ {A : Type 0} (d : A) where
   pub get_or-sets-other : (vs l : List A) (i j : ℕ) → (j < i) ⊎ (i + length vs ≤ j) → get_or (sets l i vs) j d ≡ get_or l j d

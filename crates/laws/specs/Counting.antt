@@ -1,6 +1,6 @@
 -- Tests on the numbers below a bound: how many pass, whether one passes, the first that passes; and the largest value of a function there.
 -- Each is a function that computes.
-use Rattle.std.specs.Prelude.{ℕ, zero, suc, ◌+◌, max, Bool, true, false, cond, ◌||◌}
+use Rattle.std.specs.Prelude.{◌≡◌, ℕ, zero, suc, ◌+◌, ◌<◌, max, Bool, true, false, cond, ◌||◌, Option, MatchOption}
 
 abbrev pub bit : Bool → ℕ
 bit true = 1
@@ -24,6 +24,10 @@ first_from p (suc n) i = cond (p i) i (first_from p n (suc i))
 -- the first number below n that passes the test, n where none does
 unfoldable pub first : (ℕ → Bool) → ℕ → ℕ
 first p n = first_from p n 0
+
+-- a search below n answers with the first number that passes the test, None where none does
+abbrev pub IsFirst : (ℕ → Bool) → ℕ → Option ℕ → Type 0
+IsFirst p n r = MatchOption r (first p n ≡ n) (λ k. (k < n) × (k ≡ first p n))
 
 -- the largest of f 0 to f (n - 1), 0 where n is 0
 unfoldable pub largest : (ℕ → ℕ) → ℕ → ℕ

@@ -1,5 +1,6 @@
 -- A call that passed its checks runs on its slices as the steps run on plain tables: rows and records hold the same all the way up, and what is read down
 -- is the numbering of the list whatever the look-up table holds before, of which there is one. So what the slices are left with is the outcome.
+use Rattle.std.specs.Prelude.{Result, ⊤, Ok, Err}
 use mathlib.Core.Path.{◌≡◌, refl, sym, ap, ◌∙◌}
 use mathlib.Core.Logic.{◌⊎◌, ⊎_elim}
 use mathlib.Core.List.{List, ◌++◌, append_assoc}
@@ -10,16 +11,12 @@ use lib.ListN.{length, get_or, take, drop, replicate, length-append, length-repl
 use lib.Seq.{length-take-le, get_or-take, get_or-drop, ext_get_or}
 use Rattle.laws.specs.Listing.{listed, list_of}
 use Rattle.laws.proofs.Listing.{listed_is, list-is}
-use Rattle.sheet.specs.declared.Answer.TheVariants.{Accepted, Refused}
-use Rattle.sheet.specs.declared.Check.TheVariants.{Passed}
 use Rattle.sheet.specs.declared.Refusal.TheVariants.{NoRow}
 use Rattle.sheet.specs.Edges.{Drawing, edges_in, drawing_of}
 use Rattle.sheet.specs.Numbering.{Numbering}
 use Rattle.sheet.specs.Answers.{checked, answered, followed_by_zeros}
 use Rattle.sheet.proofs.OneNumbering.{same-polygon, same-sequence, same-polygons}
 use Rattle.checks.proofs.Passed.{AllPassed, passed}
-use Rattle.steps.specs.declared.End.{End}
-use Rattle.steps.specs.declared.End.TheVariants.{Done, NoFreeRow}
 use Rattle.steps.specs.Rows.{Record, record_numbers}
 use Rattle.steps.specs.SweepUp.{Sweep, start}
 use Rattle.steps.specs.SweepDown.{natural_part, Pair, Reading}
@@ -38,6 +35,9 @@ use Rattle.numbering.proofs.Tops.{top_apart}
 use Rattle.numbering.proofs.Matching.{Ranked, HoldsRows, HoldsRecords, slice_room, matched}
 use Rattle.numbering.proofs.MatchingDown.{HoldsNumbers, HoldsAnswers, matched-down, fitting}
 use Rattle.sheet.specs.Amounts.{journal_numbers_per_edge, most_edges}
+use Rattle.steps.specs.declared.Halt.{Halt}
+use Rattle.steps.specs.declared.Halt.TheVariants.{NoFreeRow}
+use Rattle.sheet.specs.Answers.{accepted}
 
 -- the numbers of the records that a slice holds
 held-numbers : {m n : ℕ} {s : List ℤ} {j : ℕ → Record} → HoldsRecords m n s j → n ≤ m → take (numbers_per_record * n) s ≡ listed (λ k. record_numbers (j k)) n
@@ -60,7 +60,7 @@ zeros-twice x n m l h =
     ∙ append_assoc x (replicate (n - length x) (pos 0)) (replicate (m - n) (pos 0))
     ∙ ap (λ z. x ++ z) (replicate-append-replicate (n - length x) (m - n) (pos 0) ∙ ap (λ k. replicate k (pos 0)) b)
 
-module _ (l : Lent) (ok : checked (call_of l) ≡ Passed) where
+module _ (l : Lent) (ok : checked (call_of l) ≡ Ok tt) where
   abbrev all : AllPassed (call_of l)
   all = passed (call_of l) ok
 
@@ -116,16 +116,16 @@ module _ (l : Lent) (ok : checked (call_of l) ≡ Passed) where
   run_is = refl
 
   -- no other end: done, or no free row
-  pub ends : ((up l).state.end ≡ Done) ⊎ ((up l).state.end ≡ NoFreeRow)
+  pub ends : ((up l).state.end ≡ Ok tt) ⊎ ((up l).state.end ≡ Err NoFreeRow)
   unfolding up drawing_of
   ends = results.up_ends all.sheet few rows
 
   -- done: the records read down on the slices, on plain tables that begin with what the slices hold, and on plain tables that begin empty
-  module _ (done : (up l).state.end ≡ Done) where
+  module _ (done : (up l).state.end ≡ Ok tt) where
     abbrev swept : Sweep (List ℤ) (List ℤ)
     swept = slices.swept_up (in_journal l)
 
-    done-too : (results.up all.sheet few rows).state.end ≡ Done
+    done-too : (results.up all.sheet few rows).state.end ≡ Ok tt
     done-too = ap (λ w. w.state.end) (sym run_is) ∙ done
 
     abbrev held_pairs : ℕ → Pair
@@ -194,24 +194,24 @@ module _ (l : Lent) (ok : checked (call_of l) ≡ Passed) where
         zeros-twice (take (numbers_per_record * swept.state.records) swept.state.journal) (length part) (length l.journal) (omega (arith, four, alike.state.kept, part-long)) (omega (arith, part-long, all.journal))
         ∙ ap (λ x. followed_by_zeros x (length l.journal)) front
 
-    runs_done : sweeps_on l ≡ leaves l (Accepted (down l).polygons (up l).state.peak (up l).state.records)
+    runs_done : sweeps_on l ≡ leaves l (accepted (down l).polygons (up l).state.peak (up l).state.records)
     unfolding slices.sweeps
     runs_done =
         ap (λ u. whole_journal (length l.journal) (after_sweep (in_journal l) swept u)) (alike.state.end ∙ done)
-        ∙ (λ i. left_as (Accepted (same_count i) (alike.state.peak i) (alike.state.records i)) (same-polygon-list i) (same-sequence-list i) (same-journal i) (replicate (length l.rows) (pos 0)))
+        ∙ (λ i. left_as (accepted (same_count i) (alike.state.peak i) (alike.state.records i)) (same-polygon-list i) (same-sequence-list i) (same-journal i) (replicate (length l.rows) (pos 0)))
 
   -- no free row: zeros
-  runs-stopped : (up l).state.end ≡ NoFreeRow → sweeps_on l ≡ leaves l (Refused (NoRow (up l).edge))
+  runs-stopped : (up l).state.end ≡ Err NoFreeRow → sweeps_on l ≡ leaves l (Err (NoRow (up l).edge))
   unfolding slices.sweeps
   runs-stopped d =
       let n : length part + (length l.journal - length part) ≡ length l.journal = omega (arith, part-long, all.journal) in
       let long : length (replicate (length part) (pos 0)) ≡ length part = length-replicate (length part) (pos 0) in
       let z : followed_by_zeros (replicate (length part) (pos 0)) (length l.journal) ≡ replicate (length l.journal) (pos 0) = ap (λ k. replicate (length part) (pos 0) ++ replicate (length l.journal - k) (pos 0)) long ∙ replicate-append-replicate (length part) (length l.journal - length part) (pos 0) ∙ ap (λ k. replicate k (pos 0)) n in
       ap (λ u. whole_journal (length l.journal) (after_sweep (in_journal l) (slices.swept_up (in_journal l)) u)) (alike.state.end ∙ d)
-      ∙ (λ i. left_as (Refused (NoRow (alike.edge i))) l.polygons l.sequences (z i) (replicate (length l.rows) (pos 0)))
+      ∙ (λ i. left_as (Err (NoRow (alike.edge i))) l.polygons l.sequences (z i) (replicate (length l.rows) (pos 0)))
 
   -- what the outcome is, by how the sweep up ends
-  pub outcome-by : {u : End} → (up l).state.end ≡ u → outcome l ≡ leaves l (answered Passed (answer_by l u))
+  pub outcome-by : {u : Result ⊤ Halt} → (up l).state.end ≡ u → outcome l ≡ leaves l (answered (Ok tt) (answer_by l u))
   unfolding outcome
   outcome-by d = λ i. leaves l (answered (ok i) (answer_by l (d i)))
 

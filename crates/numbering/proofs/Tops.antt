@@ -6,7 +6,6 @@ use Prim.Native.Nat.{ℕ, ◌<◌}
 use lib.Dec.{ltb}
 use lib.IntN.{ℤ}
 use borrow.Author.Tests.{lt-ltb}
-use Rattle.laws.specs.Counting.{bit}
 use Rattle.laws.proofs.Deciding.{neither-true}
 use Rattle.laws.proofs.Tests.{and-true}
 use Rattle.sheet.specs.Points.{is_below}
@@ -47,8 +46,8 @@ module _ {c : Call} (all : AllPassed c) (e : ℕ) (l : e < edges_in c.list) wher
   unfolding parts
   mark-is = rw untangled (and-true (apart (drawing_of c.list) (top_place (drawing_of c.list) e)))
 
-pub tops-marked : {c : Call} {marks : List ℕ} → AllPassed c → Marked c.list marks → TopsMarked c.list (edges_in c.list) marks
-tops-marked {c} all M e l = M.mark e ∙ rw (lt-ltb e (edges_in c.list) l) (ap bit (mark-is all e l ∙ sym (top_apart all e l)))
+pub tops-marked : {c : Call} {marks : List Bool} → AllPassed c → Marked c.list marks → TopsMarked c.list (edges_in c.list) marks
+tops-marked {c} all M e l = M.mark e ∙ rw (lt-ltb e (edges_in c.list) l) (mark-is all e l ∙ sym (top_apart all e l))
 
 -- the numbers that the checks leave are those of the places that the sweep asks for
 pub places-numbered : {s : List ℤ} {numbers : List ℕ} → Numbered s numbers → PlacesNumbered s (edges_in s) numbers

@@ -1,5 +1,6 @@
 -- The sheets of document 01 that are marked there, with the peaks that M-103 gives them, sheets of several films and with corners apart, worked by the numbering's own definition: one table, one test that is
 -- computed over all of it. With three of them, engines that cannot keep the promise: for each a short refutation. With two, what demand 3 asks for is met.
+use Rattle.std.specs.Prelude.{Result, Ok, Err}
 use Prim.Native.Nat.{ℕ, ◌+◌, ◌-◌, ◌*◌, ◌/◌, ◌≤◌}
 use mathlib.Core.Path.{◌≡◌, refl, sym, ap, ◌∙◌}
 use mathlib.Core.Bool.{Bool, true, false, ◌&&◌}
@@ -10,8 +11,6 @@ use lib.ListN.{length, get_or, replicate}
 use native.Mathlib.Omega.{arith}
 use Rattle.laws.specs.Counting as counting
 use Rattle.laws.specs.Listing as listing
-use Rattle.sheet.specs.declared.Answer.{Answer}
-use Rattle.sheet.specs.declared.Answer.TheVariants.{Accepted, Refused}
 use Rattle.sheet.specs.declared.Refusal.{Refusal}
 use Rattle.sheet.specs.declared.Refusal.TheVariants.{NoRow}
 use Rattle.sheet.specs.Points as points
@@ -38,6 +37,8 @@ use Rattle.numbering.specs.Promised.{Promised, RowsEnough, fewer_rows}
 use Rattle.numbering.proofs.Promising.{promised}
 use Rattle.sheet.specs.Amounts.{numbers_per_edge, journal_numbers_per_edge}
 use Rattle.steps.specs.Swept.{numbers_per_row, LacksItself}
+use Rattle.sheet.specs.declared.Numbered.{Numbered}
+use Rattle.sheet.specs.Answers as answers
 
 -- a sheet with the lengths of the slices lent, and what 01 says of it: refusal and place, or 0, 0; polygons, peak, records; the two lists
 pub record Expected : Type 0 where
@@ -72,14 +73,14 @@ same_list [] (b ∷ l) = false
 same_list (a ∷ k) [] = false
 same_list (a ∷ k) (b ∷ l) = eqb a b && same_list k l
 
-abbrev same_answer : Answer → Expected → Bool
-same_answer (Accepted p k m) w = eqb w.refusal 0 && (eqb p w.polygons && (eqb k w.peak && eqb m w.records))
-same_answer (Refused r) w = eqb (number_of r) w.refusal && eqb (place_of r) w.place
+abbrev same_answer : Result Numbered Refusal → Expected → Bool
+same_answer (Ok n) w = eqb w.refusal 0 && (eqb n.polygons w.polygons && (eqb n.peak w.peak && eqb n.records w.records))
+same_answer (Err r) w = eqb (number_of r) w.refusal && eqb (place_of r) w.place
 
 right : Expected → Bool
 right w = by (outcome (lent_for w))
   where
-    by : Left Answer → Bool
+    by : Left (Result Numbered Refusal) → Bool
     by x = same_answer x.answer w && (same_list x.polygons w.polygon && same_list x.sequences w.sequence)
 
 all_right : List Expected → Bool
@@ -182,16 +183,16 @@ triangle_place = top_height (drawing_of (lent_for one-triangle).list) 0
 -- all of the table, and of four sheets what the laws below need, and the turn list of the touching one (crates/assembly)
 pub record AllWorked : Type 0 where
   right_all : all_right sheets ≡ true
-  of_empty : (outcome (lent_for empty)).answer ≡ Accepted 0 0 0
-  of_triangle : (outcome (lent_for one-triangle)).answer ≡ Accepted 1 1 4
+  of_empty : (outcome (lent_for empty)).answer ≡ answers.accepted 0 0 0
+  of_triangle : (outcome (lent_for one-triangle)).answer ≡ answers.accepted 1 1 4
   lists_of_triangle : (outcome (lent_for one-triangle)).polygons ≡ 1 ∷ 1 ∷ 1 ∷ []
   untouched_triangle : (lent_for one-triangle).polygons ≡ 77 ∷ 77 ∷ 77 ∷ []
   pub lists_of_touching : (outcome (lent_for two-touching)).polygons ≡ 2 ∷ 2 ∷ 1 ∷ 2 ∷ 2 ∷ 1 ∷ 1 ∷ []
   pub sequences_of_touching : (outcome (lent_for two-touching)).sequences ≡ 1 ∷ 2 ∷ 1 ∷ 3 ∷ 0 ∷ 2 ∷ 0 ∷ []
   lists_of_pairs : (outcome (lent_for three-pairs)).polygons ≡ 3 ∷ 3 ∷ 2 ∷ 2 ∷ 1 ∷ 1 ∷ []
-  of_pairs : (outcome (lent_for three-pairs)).answer ≡ Accepted 3 1 9
-  pub of_touching : (outcome (lent_for two-touching)).answer ≡ Accepted 2 3 11
-  of_one_row : (outcome (lent_for one-row-for-two-peaks)).answer ≡ Refused (NoRow 1)
+  of_pairs : (outcome (lent_for three-pairs)).answer ≡ answers.accepted 3 1 9
+  pub of_touching : (outcome (lent_for two-touching)).answer ≡ answers.accepted 2 3 11
+  of_one_row : (outcome (lent_for one-row-for-two-peaks)).answer ≡ Err (NoRow 1)
   passing_triangle : passing (drawing_of (lent_for one-triangle).list) triangle_place ≡ 2
 
 pub all-worked : AllWorked
@@ -334,20 +335,23 @@ unfolding one-row-for-two-peaks refused refused_with
 two-peaks-lack = (promised (lent_for one-row-for-two-peaks) (outcome (lent_for one-row-for-two-peaks)) refl).lacks_itself 1 all-worked.of_one_row
 
 -- engines that cannot keep the promise
-module _ (engine : Lent → Left Answer) (keeps : (l : Lent) → Promised l (engine l)) where
+module _ (engine : Lent → Left (Result Numbered Refusal)) (keeps : (l : Lent) → Promised l (engine l)) where
   -- one that refuses everything
-  refuses-everything : ((l : Lent) → (r : Refusal) × ((engine l).answer ≡ Refused r)) → ⊥
+  refuses-everything : ((l : Lent) → (r : Refusal) × ((engine l).answer ≡ Err r)) → ⊥
   refuses-everything f =
       let v = f (lent_for one-triangle) in
-      let e : Refused v.0 ≡ Accepted 1 1 4 = sym v.1 ∙ ap (λ x. x.answer) (keeps (lent_for one-triangle)).outcome_is ∙ all-worked.of_triangle in
+      let e : Err v.0 ≡ answers.accepted 1 1 4 = sym v.1 ∙ ap (λ x. x.answer) (keeps (lent_for one-triangle)).outcome_is ∙ all-worked.of_triangle in
       let z : ◌≡◌ {A = ℕ} 0 1 = cc in
       omega arith
 
+  abbrev polygons_of : Result Numbered Refusal → ℕ
+  polygons_of (Ok n) = n.polygons
+  polygons_of (Err r) = 0
+
   -- one that gives every sheet one answer
-  one_answer : (a : Answer) → ((l : Lent) → (engine l).answer ≡ a) → ⊥
+  one_answer : (a : Result Numbered Refusal) → ((l : Lent) → (engine l).answer ≡ a) → ⊥
   one_answer a f =
-      let e : Accepted 0 0 0 ≡ Accepted 1 1 4 = sym all-worked.of_empty ∙ sym (ap (λ x. x.answer) (keeps (lent_for empty)).outcome_is) ∙ f (lent_for empty) ∙ sym (f (lent_for one-triangle)) ∙ ap (λ x. x.answer) (keeps (lent_for one-triangle)).outcome_is ∙ all-worked.of_triangle in
-      let z : ◌≡◌ {A = ℕ} 0 1 = cc in
+      let e : ◌≡◌ {A = ℕ} 0 1 = ap polygons_of (sym all-worked.of_empty ∙ sym (ap (λ x. x.answer) (keeps (lent_for empty)).outcome_is) ∙ f (lent_for empty) ∙ sym (f (lent_for one-triangle)) ∙ ap (λ x. x.answer) (keeps (lent_for one-triangle)).outcome_is ∙ all-worked.of_triangle) in
       omega arith
 
   -- one that writes nothing
@@ -358,8 +362,8 @@ module _ (engine : Lent → Left Answer) (keeps : (l : Lent) → Promised l (eng
       omega arith
 
   -- one that is right on the first outline and gives all other edges of a sheet one polygon number, or all other edges one sequence number
-  abbrev Fakes : (Lent → Left Answer → ℕ → ℕ) → ℕ → Type 0
-  Fakes given c = (l : Lent) (p k m : ℕ) → (engine l).answer ≡ Accepted p k m → (e : ℕ) → (get_or (outcome l).polygons e 0 ≡ 1 → ⊥) → given l (engine l) e ≡ c
+  abbrev Fakes : (Lent → Left (Result Numbered Refusal) → ℕ → ℕ) → ℕ → Type 0
+  Fakes given c = (l : Lent) (p k m : ℕ) → (engine l).answer ≡ answers.accepted p k m → (e : ℕ) → (get_or (outcome l).polygons e 0 ≡ 1 → ⊥) → given l (engine l) e ≡ c
 
   fakes-the-polygons : (c : ℕ) → Fakes (λ l x e. get_or x.polygons e 0) c → ⊥
   fakes-the-polygons c f =
@@ -384,14 +388,14 @@ module _ (engine : Lent → Left Answer) (keeps : (l : Lent) → Promised l (eng
       omega arith
 
   -- one that has the same peak for all it accepts: 0, or any other
-  invents-a-peak : (k : ℕ) → ((l : Lent) (p j m : ℕ) → (engine l).answer ≡ Accepted p j m → j ≡ k) → ⊥
+  invents-a-peak : (k : ℕ) → ((l : Lent) (p j m : ℕ) → (engine l).answer ≡ answers.accepted p j m → j ≡ k) → ⊥
   invents-a-peak k f =
       let a : 1 ≡ k = f (lent_for one-triangle) 1 1 4 (ap (λ x. x.answer) (keeps (lent_for one-triangle)).outcome_is ∙ all-worked.of_triangle) in
       let b : 3 ≡ k = f (lent_for two-touching) 2 3 11 (ap (λ x. x.answer) (keeps (lent_for two-touching)).outcome_is ∙ all-worked.of_touching) in
       omega arith
 
   -- one that gives C for the peak: two edges pass the triangle's places, and it needs one row
-  C-for-the-peak : ((l : Lent) (p j m : ℕ) → (engine l).answer ≡ Accepted p j m → Most (passing (drawing_of l.list)) j) → ⊥
+  C-for-the-peak : ((l : Lent) (p j m : ℕ) → (engine l).answer ≡ answers.accepted p j m → Most (passing (drawing_of l.list)) j) → ⊥
   C-for-the-peak f =
       let most = f (lent_for one-triangle) 1 1 4 (ap (λ x. x.answer) (keeps (lent_for one-triangle)).outcome_is ∙ all-worked.of_triangle) in
       let a : passing (drawing_of (lent_for one-triangle).list) triangle_place ≤ 1 = most.bound triangle_place in

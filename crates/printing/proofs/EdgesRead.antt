@@ -12,7 +12,8 @@ use borrow.Author.Tests.{ltb-true, ltb-false}
 use Rattle.laws.proofs.First.{first-le}
 use Rattle.laws.proofs.Listing.{listed_is}
 use Rattle.sheet.specs.Edges.{edge_at}
-use Rattle.text.specs.declared.Reading.TheVariants.{TooMuch, Malformed, Edges}
+use Rattle.std.specs.Prelude.{Ok, Err}
+use Rattle.text.specs.declared.TextRefusal.TheVariants.{TooMuch, Malformed}
 use Rattle.text.specs.Lines.{edge_in}
 use Rattle.text.specs.Texts.{line_count, line_of, first_malformed, too_much, answer_of, reading_of, lines_read, Filled}
 use Rattle.text.proofs.EnoughRoom.{few-lines, enough-room}
@@ -49,7 +50,7 @@ pub record AllRead (s : List ℕ) (n : ℕ) : Type 0 where
   pub few : n ≤ 512
   pub all : lines_read s 2560 ≡ n
 
-pub all_read : (s : List ℕ) (n : ℕ) → reading_of s 2560 ≡ Edges n → AllRead s n
+pub all_read : (s : List ℕ) (n : ℕ) → reading_of s 2560 ≡ Ok n → AllRead s n
 unfolding reading_of lines_read answer_of first_malformed
 all_read s n e = by-limits (too_much s 2560) refl e
   where
@@ -59,32 +60,32 @@ all_read s n e = by-limits (too_much s 2560) refl e
     all-or-fewer : m ≤ line_count s
     all-or-fewer = first-le _ (line_count s)
 
-    by-malformed : (t : Bool) → ltb m (line_count s) ≡ t → too_much s 2560 ≡ false → cond t (Malformed (m + 1)) (Edges (line_count s)) ≡ Edges n → AllRead s n
+    by-malformed : (t : Bool) → ltb m (line_count s) ≡ t → too_much s 2560 ≡ false → cond t (Err (Malformed (m + 1))) (Ok (line_count s)) ≡ Ok n → AllRead s n
     by-malformed true q p e = let z : ◌≡◌ {A = ℕ} 0 1 = cc in absurd (omega arith)
     by-malformed false q p e =
         let lines : line_count s ≡ n = cc in
         let none : line_count s ≤ m = ltb-false m (line_count s) q in
         record { few = omega (arith, few-lines s (sym (enough-room s 2560 (omega arith)) ∙ p)); all = rw p (omega (arith, all-or-fewer)) }
 
-    by-limits : (t : Bool) → too_much s 2560 ≡ t → cond t TooMuch (answer_of (line_count s) m) ≡ Edges n → AllRead s n
+    by-limits : (t : Bool) → too_much s 2560 ≡ t → cond t (Err TooMuch) (answer_of (line_count s) m) ≡ Ok n → AllRead s n
     by-limits true p e = let z : ◌≡◌ {A = ℕ} 0 1 = cc in absurd (omega arith)
     by-limits false p e = by-malformed (ltb m (line_count s)) refl p e
 
 -- a malformed line is one of the first 512
-pub malformed-at : (s : List ℕ) (line : ℕ) → reading_of s 2560 ≡ Malformed line → line ≤ 512
+pub malformed-at : (s : List ℕ) (line : ℕ) → reading_of s 2560 ≡ Err (Malformed line) → line ≤ 512
 unfolding reading_of answer_of
 malformed-at s line e = by-limits (too_much s 2560) refl e
   where
     m : ℕ
     m = first_malformed s (line_count s)
 
-    by-malformed : (t : Bool) → ltb m (line_count s) ≡ t → too_much s 2560 ≡ false → cond t (Malformed (m + 1)) (Edges (line_count s)) ≡ Malformed line → line ≤ 512
+    by-malformed : (t : Bool) → ltb m (line_count s) ≡ t → too_much s 2560 ≡ false → cond t (Err (Malformed (m + 1))) (Ok (line_count s)) ≡ Err (Malformed line) → line ≤ 512
     by-malformed true q p e =
         let at : m + 1 ≡ line = cc in
         let below : m < line_count s = ltb-true m (line_count s) q in
         omega (arith, few-lines s (sym (enough-room s 2560 (omega arith)) ∙ p))
     by-malformed false q p e = let z : ◌≡◌ {A = ℕ} 0 1 = cc in absurd (omega arith)
 
-    by-limits : (t : Bool) → too_much s 2560 ≡ t → cond t TooMuch (answer_of (line_count s) m) ≡ Malformed line → line ≤ 512
+    by-limits : (t : Bool) → too_much s 2560 ≡ t → cond t (Err TooMuch) (answer_of (line_count s) m) ≡ Err (Malformed line) → line ≤ 512
     by-limits true p e = let z : ◌≡◌ {A = ℕ} 0 1 = cc in absurd (omega arith)
     by-limits false p e = by-malformed (ltb m (line_count s)) refl p e

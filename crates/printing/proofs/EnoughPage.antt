@@ -11,10 +11,7 @@ use lib.ListN.{get_or, length, length-append}
 use borrow.Author.Tests.{le-leb}
 use Rattle.laws.specs.Listing.{listed}
 use Rattle.laws.proofs.Deciding.{lt-or-le}
-use Rattle.sheet.specs.declared.Answer.{Answer}
-use Rattle.sheet.specs.declared.Answer.TheVariants.{Accepted, Refused}
-use Rattle.sheet.specs.declared.Check.{Check}
-use Rattle.sheet.specs.declared.Check.TheVariants as check
+use Rattle.sheet.specs.declared.Numbered.{Numbered}
 use Rattle.sheet.specs.declared.Refusal.{Refusal}
 use Rattle.sheet.specs.declared.Refusal.TheVariants.{NotWhole, TooMany, ListsDiffer, JournalShort, PastRange, FilmPastRange, EqualEnds, TopFalls, Repeated, Uneven, NotAlternating, NoRow}
 use Rattle.sheet.specs.Edges.{edges_in, drawing_of}
@@ -23,19 +20,16 @@ use Rattle.sheet.proofs.Outlines.{sequence-small}
 use Rattle.checks.proofs.AnswerSheet.{Row, row, row-1, row-2, row-3, row-4, row-5, row-16, row-6, row-7, row-8, row-9, row-17, no_row}
 use Rattle.checks.proofs.Passed.{passed}
 use Rattle.steps.specs.Swept.{rows_in}
-use Rattle.text.specs.declared.Reading.{Reading}
-use Rattle.text.specs.declared.Reading.TheVariants.{TooMuch, Malformed, Edges}
+use Rattle.std.specs.Prelude.{Result, Ok, Err, ⊤}
+use Rattle.text.specs.declared.TextRefusal.TheVariants.{TooMuch, Malformed}
 use Rattle.text.specs.Lines.{edge_in}
-use Rattle.text.specs.Texts.{line_of, reading_of}
-use Rattle.steps.specs.declared.End.{End}
-use Rattle.steps.specs.declared.End.TheVariants.{Done, NoFreeRow, Overrun}
+use Rattle.text.specs.Texts.{Reading, line_of, reading_of}
+use Rattle.steps.specs.declared.Halt.{Halt}
 use Rattle.numbering.specs.Outcome.{Lent, call_of, up, down, answer_by, leaves, outcome}
 use Rattle.numbering.specs.Promised.{Promised}
 use Rattle.numbering.proofs.Promising.{promised, accepted-call}
-use Rattle.printing.specs.declared.Printed.{Printed}
-use Rattle.printing.specs.declared.Printed.TheVariants.{Bytes, TooShort}
 use Rattle.printing.specs.Output.{decimal, accepted, refused, edge_line, edge_lines, answer_lines, outcome_lines, lent_for, five_numbers, edges_read, reading_lines, printed}
-use Rattle.printing.specs.Laid.{Page}
+use Rattle.printing.specs.Laid.{Printed, too_short, Page}
 use Rattle.printing.proofs.Digits.{few-digits}
 use Rattle.printing.proofs.EdgesRead.{all_read, malformed-at}
 use Rattle.sheet.specs.Amounts.{numbers_per_edge}
@@ -56,9 +50,9 @@ short-refusal : (number place : ℕ) → Small number → Small place → length
 unfolding refused
 short-refusal number place a b = simp length-append (omega (arith, short number a, short place b))
 
-short-first : (polygons peak records : ℕ) → Small polygons → Small peak → Small records → length (accepted polygons peak records) ≤ 24
+short-first : (n : Numbered) → Small n.polygons → Small n.peak → Small n.records → length (accepted n) ≤ 24
 unfolding accepted
-short-first polygons peak records a b c = simp length-append (omega (arith, short polygons a, short peak b, short records c))
+short-first n a b c = simp length-append (omega (arith, short n.polygons a, short n.peak b, short n.records c))
 
 short-edges : (polygons sequences : List ℕ) (n : ℕ) → n ≤ 512 → ((e : ℕ) → e < n → Small (get_or polygons e 0) × Small (get_or sequences e 0)) → length (edge_lines polygons sequences n) ≤ 14 * n
 unfolding edge_lines
@@ -86,11 +80,11 @@ small-number (NotAlternating e) = omega arith
 small-number (NoRow e) = omega arith
 
 -- a refusal's place is 0 or an edge
-abbrev check_place : Check → ℕ
-check_place (check.Refused r) = place_of r
-check_place check.Passed = 0
+abbrev check_place : Result ⊤ Refusal → ℕ
+check_place (Err r) = place_of r
+check_place (Ok _) = 0
 
-place-is-edge : {c : Call} {a : Check} → Row c a → check_place a ≤ edges_in c.list
+place-is-edge : {c : Call} {a : Result ⊤ Refusal} → Row c a → check_place a ≤ edges_in c.list
 place-is-edge (row-1 w) = omega arith
 place-is-edge (row-2 w m) = omega arith
 place-is-edge (row-3 w m o) = omega arith
@@ -105,9 +99,9 @@ place-is-edge (row-17 p h) = omega (arith, h.is_edge)
 place-is-edge (no_row p a) = omega arith
 
 module _ (l : Lent) where
-  leaves-answer : (a : Answer) → (leaves l a).answer ≡ a
-  leaves-answer (Refused r) = refl
-  leaves-answer (Accepted p k m) = refl
+  leaves-answer : (a : Result Numbered Refusal) → (leaves l a).answer ≡ a
+  leaves-answer (Err r) = refl
+  leaves-answer (Ok n) = refl
 
   answer-is : (outcome l).answer ≡ answered (checked (call_of l)) (answer_by l (up l).state.end)
   unfolding outcome
@@ -116,56 +110,56 @@ module _ (l : Lent) where
   P : Promised l (outcome l)
   P = promised l (outcome l) refl
 
-  place-small : (r : Refusal) → (outcome l).answer ≡ Refused r → place_of r ≤ edges_in l.list
+  place-small : (r : Refusal) → (outcome l).answer ≡ Err r → place_of r ≤ edges_in l.list
   unfolding drawing_of
   place-small r q = by (checked (call_of l)) refl
     where
-      at_edge : (d : ℕ) → (outcome l).answer ≡ Refused (NoRow d) → place_of r ≤ edges_in l.list
+      at_edge : (d : ℕ) → (outcome l).answer ≡ Err (NoRow d) → place_of r ≤ edges_in l.list
       at_edge d e =
-          let f : Refused r ≡ Refused (NoRow d) = sym q ∙ e in
+          let f : Err r ≡ Err (NoRow d) = sym q ∙ e in
           let g : r ≡ NoRow d = cc in
           omega (arith, ap place_of g, (P.lacks_row d e).1.is_edge)
 
-      ended : (u : End) → (outcome l).answer ≡ answer_by l u → place_of r ≤ edges_in l.list
-      ended Done e = let f : Refused r ≡ Accepted (down l).polygons (up l).state.peak (up l).state.records = sym q ∙ e in let z : ◌≡◌ {A = ℕ} 0 1 = cc in absurd (omega arith)
-      ended NoFreeRow e = at_edge (up l).edge e
-      ended Overrun e = at_edge (up l).edge e
+      ended : (u : Result ⊤ Halt) → (outcome l).answer ≡ answer_by l u → place_of r ≤ edges_in l.list
+      ended (Ok _) e = let f : Err r ≡ Ok (record { polygons = (down l).polygons; peak = (up l).state.peak; records = (up l).state.records }) = sym q ∙ e in let z : ◌≡◌ {A = ℕ} 0 1 = cc in absurd (omega arith)
+      ended (Err _) e = at_edge (up l).edge e
 
-      by : (x : Check) → checked (call_of l) ≡ x → place_of r ≤ edges_in l.list
-      by (check.Refused s) e =
-          let f : Refused r ≡ Refused s = sym q ∙ answer-is ∙ ap (λ x. answered x (answer_by l (up l).state.end)) e in
+      by : (x : Result ⊤ Refusal) → checked (call_of l) ≡ x → place_of r ≤ edges_in l.list
+      by (Err s) e =
+          let f : Err r ≡ Err s = sym q ∙ answer-is ∙ ap (λ x. answered x (answer_by l (up l).state.end)) e in
           let g : r ≡ s = cc in
           omega (arith, ap place_of g, ap check_place e, place-is-edge (row (call_of l)))
-      by check.Passed e = ended (up l).state.end (answer-is ∙ ap (λ x. answered x (answer_by l (up l).state.end)) e)
+      by (Ok _) e = ended (up l).state.end (answer-is ∙ ap (λ x. answered x (answer_by l (up l).state.end)) e)
 
-  module _ (few : edges_in l.list ≤ 512) (lent : rows_in l.rows ≤ 256) where
-    module _ (p k m : ℕ) (q : (outcome l).answer ≡ Accepted p k m) where
-      peak-small : k ≤ 256
+  module _ (few_edges : edges_in l.list ≤ 512) (lent : rows_in l.rows ≤ 256) where
+    module _ (n : Numbered) (q : (outcome l).answer ≡ Ok n) where
+      peak-small : n.peak ≤ 256
       peak-small = ⊎_elim
           (λ h.
-          let v = P.fewer_refused p k m q l.rows h in
-          let f : Refused (NoRow v.0) ≡ Accepted p k m = sym v.1 ∙ q in
+          let v = P.fewer_refused n.polygons n.peak n.records q l.rows h in
+          let f : Err (NoRow v.0) ≡ Ok n = sym v.1 ∙ q in
           let z : ◌≡◌ {A = ℕ} 0 1 = cc in
           absurd (omega arith))
           (λ h. omega arith)
-          (lt-or-le (rows_in l.rows) k)
+          (lt-or-le (rows_in l.rows) n.peak)
 
       numbers-small : (e : ℕ) → e < edges_in l.list → Small (get_or (outcome l).polygons e 0) × Small (get_or (outcome l).sequences e 0)
       unfolding drawing_of
       numbers-small e h =
-          let N = P.numbered p k m q in
+          let N = P.numbered n.polygons n.peak n.records q in
           let s = sequence-small (passed (call_of l) (accepted-call refl q).passed_all).sheet N e h in
-          (omega (arith, (N.from_one e h).1, P.few_records p k m q), omega (arith, s))
+          (omega (arith, (N.from_one e h).1, P.few_records n.polygons n.peak n.records q), omega (arith, s))
 
-    lines-short : (a : Answer) → (outcome l).answer ≡ a → length (answer_lines (edges_in l.list) a (outcome l).polygons (outcome l).sequences) ≤ 8192
-    lines-short (Accepted p k m) q =
+    lines-short : (a : Result Numbered Refusal) → (outcome l).answer ≡ a → length (answer_lines (edges_in l.list) a (outcome l).polygons (outcome l).sequences) ≤ 8192
+    lines-short (Ok n) q =
+        let few = P.few_records n.polygons n.peak n.records q in
         omega (
           arith,
-          short-first p k m (omega (arith, P.few_records p k m q)) (omega (arith, peak-small p k m q)) (omega (arith, P.few_records p k m q)),
-          short-edges (outcome l).polygons (outcome l).sequences (edges_in l.list) few (numbers-small p k m q),
-          length-append (accepted p k m) (edge_lines (outcome l).polygons (outcome l).sequences (edges_in l.list)),
+          short-first n (omega (arith, few)) (omega (arith, peak-small n q)) (omega (arith, few)),
+          short-edges (outcome l).polygons (outcome l).sequences (edges_in l.list) few_edges (numbers-small n q),
+          length-append (accepted n) (edge_lines (outcome l).polygons (outcome l).sequences (edges_in l.list)),
         )
-    lines-short (Refused r) q = short-refusal (number_of r) (place_of r) (small-number r) (omega (arith, place-small r q))
+    lines-short (Err r) q = short-refusal (number_of r) (place_of r) (small-number r) (omega (arith, place-small r q))
 
     outcome-short : (n : ℕ) → edges_in l.list ≡ n → length (outcome_lines n (outcome l)) ≤ 8192
     unfolding outcome_lines
@@ -187,17 +181,17 @@ unfolding printed
 enough-page s = by (reading_of s 2560) refl
   where
     by : (r : Reading) → reading_of s 2560 ≡ r → length (reading_lines s r) ≤ 8192
-    by TooMuch e = short-refusal 2 0 (omega arith) (omega arith)
-    by (Malformed line) e = short-refusal 15 line (omega arith) (omega (arith, malformed-at s line e))
-    by (Edges n) e =
+    by (Err TooMuch) e = short-refusal 2 0 (omega arith) (omega arith)
+    by (Err (Malformed line)) e = short-refusal 15 line (omega arith) (omega (arith, malformed-at s line e))
+    by (Ok n) e =
         let m = edges_in_lem s n in
         outcome-short (lent_for n (edges_read s n)) (omega (arith, (all_read s n e).few)) (omega arith) n m
 
 -- a page of 8,192 bytes is never too short
 module _ {s before after : List ℕ} {r : Printed} (x : Page s before after r) (h : 8192 ≤ length before) where
-  pub always-fits : r ≡ Bytes (length (printed s))
+  pub always-fits : r ≡ Ok (length (printed s))
   always-fits =
-      x.answer ∙ ap (λ t. cond t (Bytes (length (printed s))) TooShort) (le-leb (length (printed s)) (length before) (omega (arith, enough-page s)))
+      x.answer ∙ ap (λ t. cond t (Ok (length (printed s))) too_short) (le-leb (length (printed s)) (length before) (omega (arith, enough-page s)))
 
-  pub never-too-short : r ≡ TooShort → ⊥
-  never-too-short e = let f : TooShort ≡ Bytes (length (printed s)) = sym e ∙ always-fits in let z : ◌≡◌ {A = ℕ} 0 1 = cc in omega arith
+  pub never-too-short : r ≡ too_short → ⊥
+  never-too-short e = let f : too_short ≡ Ok (length (printed s)) = sym e ∙ always-fits in let z : ◌≡◌ {A = ℕ} 0 1 = cc in omega arith

@@ -6,7 +6,8 @@ use native.Mathlib.Omega.{arith}
 use native.Mathlib.Numerals.{add-one}
 use lib.ListN.{get_or, length, length-append, take, drop, set}
 use lib.Seq.{sets, length-sets, set_out, set-append_seam, take-nil, take-suc, take_all}
-use Rattle.printing.specs.Laid.{Laid}
+use Rattle.printing.specs.declared.bytes.Output.{Output}
+use Rattle.printing.specs.Laid.{Laid, Put}
 
 sets-append : (l : List ℕ) (i : ℕ) (v w : List ℕ) → sets l i (v ++ w) ≡ sets (sets l i v) (i + length v) w
 sets-append l i [] w = let e : i + 0 ≡ i = omega arith in rw e
@@ -16,13 +17,6 @@ sets-append l i (a ∷ v) w =
 
 pub none-laid : (l : List ℕ) (at : ℕ) → Laid l at [] l at
 none-laid l at = record { bytes = refl; place = omega arith }
-
-pub byte-laid : (l : List ℕ) (at b : ℕ) → Laid l at (b ∷ []) (set l at b) (at + 1)
-byte-laid l at b = record { bytes = refl; place = refl }
-
--- behind the end a byte is left out
-pub byte-left-out : (l : List ℕ) (at b : ℕ) → length l ≤ at → Laid l at (b ∷ []) l (at + 1)
-byte-left-out l at b h = record { bytes = sym (set_out l at b h); place = refl }
 
 module _ {x y z v w : List ℕ} {at n m : ℕ} where
   pub laid_then : Laid x at v y n → Laid y n w z m → Laid x at (v ++ w) z m
@@ -58,26 +52,16 @@ one-more-laid word i h a b =
     let e : take (i + 1) word ≡ take i word ++ (get_or word i 0 ∷ []) = ap (λ k. take k word) (add-one i) ∙ take-suc word i 0 h in
     rw e (laid_then a b)
 
--- and then it is the word
-pub front-laid : (word : List ℕ) (i : ℕ) {x y : List ℕ} {at n : ℕ} → length word ≤ i → Laid x at (take i word) y n → Laid x at word y n
-front-laid word i h a = rw (take_all i word h) at a
+-- the same on a page
+pub none-put : (x : Output) → Put x [] x
+none-put x = record { same_page = refl; laid = none-laid x.page.now x.at }
 
--- Of the bytes w that are to be laid at a place of x, those of v are still to come: laid at n in y they make all of it.
-pub record ToCome (x : List ℕ) (at : ℕ) (w y : List ℕ) (n : ℕ) (v : List ℕ) : Type 0 where
-  pub bytes : sets y n v ≡ sets x at w
-  pub place : n + length v ≡ at + length w
+module _ {x y z : Output} where
+  pub put_then : {v w : List ℕ} → Put x v y → Put y w z → Put x (v ++ w) z
+  put_then a b = record { same_page = b.same_page ∙ a.same_page; laid = laid_then a.laid b.laid }
 
-pub all-to-come : (x : List ℕ) (at : ℕ) (w : List ℕ) → ToCome x at w x at w
-all-to-come x at w = record { bytes = refl; place = refl }
+  pub one-more-put : (word : List ℕ) (i : ℕ) → i < length word → Put x (take i word) y → Put y (get_or word i 0 ∷ []) z → Put x (take (i + 1) word) z
+  one-more-put word i h a b = record { same_page = b.same_page ∙ a.same_page; laid = one-more-laid word i h a.laid b.laid }
 
-pub fewer-to-come : (u v : List ℕ) {x w y z : List ℕ} {at n m : ℕ} → ToCome x at w y n (u ++ v) → Laid y n u z m → ToCome x at w z m v
-fewer-to-come u v {y = y} {n = n} t a = record {
-  bytes = (λ i. sets (a.bytes i) (a.place i) v) ∙ sym (sets-append y n u v) ∙ t.bytes;
-  place = omega (arith, a.place, t.place, length-append u v);
-}
-
-pub none-to-come : {x w y : List ℕ} {at n : ℕ} → ToCome x at w y n [] → Laid x at w y n
-none-to-come t = record { bytes = t.bytes; place = omega (arith, t.place) }
-
-pub to-come-length : {x w y v : List ℕ} {at n : ℕ} → ToCome x at w y n v → length y ≡ length x
-to-come-length {x} {w} {y} {v} {at} {n} t = sym (length-sets y n v) ∙ ap length t.bytes ∙ length-sets x at w
+pub front-put : (word : List ℕ) (i : ℕ) {x y : Output} → length word ≤ i → Put x (take i word) y → Put x word y
+front-put word i h a = rw (take_all i word h) at a

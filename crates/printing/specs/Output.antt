@@ -1,19 +1,18 @@
 -- What the program prints for a text (01, "The program and the host"), as a function from bytes to bytes. The text is read by the definitions of crates/text,
 -- its edges are numbered by the outcome of a call (crates/numbering), and the answer is written in lines. "01 Program 4" in a comment names the fourth
 -- sentence under that heading.
-use Rattle.std.specs.Prelude.{ℕ, zero, suc, ◌*◌, List, [], ◌∷◌, ◌++◌, ℤ, pos, get_or, replicate}
+use Rattle.std.specs.Prelude.{ℕ, zero, suc, ◌*◌, List, [], ◌∷◌, ◌++◌, ℤ, pos, get_or, replicate, Result, Ok, Err}
 use Prim.Native.Char.{code}
 use Prim.Native.String as string
 use Prim.Native.String.{String}
 use Rattle.laws.specs.Listing.{listed}
 use Rattle.sheet.specs.declared.Edge.{Edge}
-use Rattle.sheet.specs.declared.Answer.{Answer}
-use Rattle.sheet.specs.declared.Answer.TheVariants.{Accepted, Refused}
+use Rattle.sheet.specs.declared.Numbered.{Numbered}
+use Rattle.sheet.specs.declared.Refusal.{Refusal}
 use Rattle.sheet.specs.Answers.{number_of, place_of}
-use Rattle.text.specs.declared.Reading.{Reading}
-use Rattle.text.specs.declared.Reading.TheVariants.{TooMuch, Malformed, Edges}
+use Rattle.text.specs.declared.TextRefusal.TheVariants.{TooMuch, Malformed}
 use Rattle.text.specs.Lines.{space, newline, edge_in}
-use Rattle.text.specs.Texts.{line_of, reading_of}
+use Rattle.text.specs.Texts.{Reading, line_of, reading_of}
 use Rattle.text.specs.Written as written
 use Rattle.numbering.specs.Outcome.{Lent, Left, lent, outcome}
 use Rattle.sheet.specs.Amounts.{numbers_per_edge, journal_numbers_per_edge}
@@ -34,8 +33,8 @@ line word [] = word ++ (newline ∷ [])
 line word (next ∷ more) = word ++ (space ∷ line next more)
 
 -- 01 Program 6: polygons, peak, records
-unfoldable pub accepted : ℕ → ℕ → ℕ → List ℕ
-accepted polygons peak records = line (bytes "accepted") (decimal polygons ∷ decimal peak ∷ decimal records ∷ [])
+unfoldable pub accepted : Numbered → List ℕ
+accepted n = line (bytes "accepted") (decimal n.polygons ∷ decimal n.peak ∷ decimal n.records ∷ [])
 
 -- 01 Program 7: number, place
 unfoldable pub refused : ℕ → ℕ → List ℕ
@@ -51,11 +50,11 @@ edge_lines polygons sequences zero = []
 edge_lines polygons sequences (suc e) = edge_line e (get_or polygons e 0) (get_or sequences e 0) ++ edge_lines polygons sequences e
 
 -- 01 Program 6 and 7: what is printed for n edges, by the answer of their call and its two lists
-abbrev pub answer_lines : ℕ → Answer → List ℕ → List ℕ → List ℕ
-answer_lines n (Accepted count peak records) polygons sequences = accepted count peak records ++ edge_lines polygons sequences n
-answer_lines n (Refused r) polygons sequences = refused (number_of r) (place_of r)
+abbrev pub answer_lines : ℕ → Result Numbered Refusal → List ℕ → List ℕ → List ℕ
+answer_lines n (Ok numbered) polygons sequences = accepted numbered ++ edge_lines polygons sequences n
+answer_lines n (Err r) polygons sequences = refused (number_of r) (place_of r)
 
-unfoldable pub outcome_lines : ℕ → Left Answer → List ℕ
+unfoldable pub outcome_lines : ℕ → Left (Result Numbered Refusal) → List ℕ
 outcome_lines n x = answer_lines n x.answer x.polygons x.sequences
 
 -- 01 Program 5: 256 rows are lent; with them lists of one number an edge and a journal of eight. All of them hold zeros.
@@ -72,9 +71,9 @@ edges_read s n = listed (λ i. five_numbers (edge_in (line_of s i))) n
 
 -- 01 Program 4: a text past the limits is refused by 2, the first malformed line by 15 with its number; otherwise the edges are numbered
 abbrev pub reading_lines : List ℕ → Reading → List ℕ
-reading_lines s TooMuch = refused 2 0
-reading_lines s (Malformed line) = refused 15 line
-reading_lines s (Edges n) = outcome_lines n (outcome (lent_for n (edges_read s n)))
+reading_lines s (Err TooMuch) = refused 2 0
+reading_lines s (Err (Malformed line)) = refused 15 line
+reading_lines s (Ok n) = outcome_lines n (outcome (lent_for n (edges_read s n)))
 
 -- the text is read into a room of five numbers for each of 512 lines
 unfoldable pub printed : List ℕ → List ℕ

@@ -4,22 +4,17 @@
 mod bytes;
 mod lines;
 
-ghost use Rattle.std.specs.Prelude.{◌≡◌, ◌*◌, ◌≤◌, pos, length, take, replicate};
+ghost use Rattle.std.specs.Prelude.{◌≡◌, ◌≤◌, pos, length, replicate};
 ghost use Rattle.numbering.specs.Outcome.{lent, outcome};
 ghost use Rattle.printing.specs.Output.{outcome_lines, lent_for, printed};
-ghost use Rattle.printing.specs.Laid.{Laid, Page};
-ghost use Rattle.sheet.specs.Amounts.{numbers_per_edge, journal_numbers_per_edge};
+ghost use Rattle.printing.specs.Laid.{Put, Page};
 
-use lines::{put_accepted, put_refusal};
-use sheet::{Answer, Edge};
-use text::Reading;
+use bytes::Output;
+use sheet::Edge;
 
-// How many bytes were printed, or that the slice lent for them is too short.
-#[derive(Clone, Copy)]
-pub enum Printed {
-    Bytes(usize),
-    TooShort,
-}
+// That the page lent is too short for what is printed.
+#[derive(Clone, Copy, Debug, PartialEq, Eq)]
+pub struct TooShort;
 
 // The numbers that the program lends: 512 edges of 5, lists of one an edge, a journal of 8 an edge, 256 rows of 8.
 const EDGES: usize = 2560;
@@ -30,72 +25,49 @@ const JOURNAL: usize = 4096;
 
 const ROWS: usize = 2048;
 
-// Prints a text's sheet: its numbers, or why it is refused. Takes every text and every length of `out`. Bytes that do not fit are left out.
-pub fn print_sheet(text: &[u8], out: &mut [u8]) -> Printed
+// Prints a text's sheet: its numbers, or why it is refused. Answers how many bytes that are. Takes every text and every length of `out`. Bytes that do not
+// fit are left out.
+pub fn print_sheet(text: &[u8], out: &mut [u8]) -> Result<usize, TooShort>
     ensures { Page text.now out.old out.new result }
 {
-    let n = put_sheet(text, out);
-    if out.len() < n {
-        return Printed::TooShort;
+    let room = out.len();
+    let mut output = Output::new(out);
+    put_sheet(text, &mut output);
+    let count = output.at;
+    if room < count {
+        return Err(TooShort);
     }
-    Printed::Bytes(n)
+    Ok(count)
 }
 
 // The text is read, and its edges are numbered.
-fn put_sheet(text: &[u8], out: &mut [u8]) -> usize
-    ensures { Laid out.old 0 (printed text.now) out.new result }
+fn put_sheet(text: &[u8], output: &mut Output)
+    requires { output.old.at ≡ 0 }
+    ensures { Put output.old (printed text.now) output.new }
 {
     let mut edges = [0i32; EDGES];
-    let reading = text::read(text, &mut edges);
-    match reading {
-        Reading::Edges(n) => put_edges(&edges, n, out),
-        Reading::TooMuch => put_refusal(out, reading.number(), reading.place()),
-        Reading::Malformed(_) => put_refusal(out, reading.number(), reading.place()),
+    match text::read(text, &mut edges) {
+        Ok(n) => put_edges(&edges[..Edge::NUMBERS * n], n, output),
+        Err(refusal) => output.put_refusal(refusal.number(), refusal.place()),
     }
 }
 
-// The first n edges of a room, with lists and a journal of zeros.
-fn put_edges(edges: &[i32], n: usize, out: &mut [u8]) -> usize
-    requires { (n ≤ 512) × (numbers_per_edge * n ≤ length edges.now) }
-    ensures { Laid out.old 0 (outcome_lines n (outcome (lent_for n (take (numbers_per_edge * n) edges.now)))) out.new result }
+// The edges are numbered, with lists and a journal of zeros.
+fn put_edges(edges: &[i32], n: usize, output: &mut Output)
+    requires { (output.old.at ≡ 0) × (n ≤ 512) }
+    ensures { Put output.old (outcome_lines n (outcome (lent_for n edges.now))) output.new }
 {
     let mut polygons = [0u32; LIST];
     let mut sequences = [0u32; LIST];
     let mut turns = [0u32; LIST];
     let mut journal = [0i32; JOURNAL];
-    put_parts(
-        edges,
-        n,
-        &mut polygons,
-        &mut sequences,
-        &mut turns,
-        &mut journal,
-        out,
-    )
-}
-
-// As many numbers of each slice as n edges want.
-fn put_parts(
-    edges: &[i32],
-    n: usize,
-    polygons: &mut [u32],
-    sequences: &mut [u32],
-    turns: &mut [u32],
-    journal: &mut [i32],
-    out: &mut [u8],
-) -> usize
-    requires { (n ≤ 512) × (numbers_per_edge * n ≤ length edges.now) × (n ≤ length polygons.old) × (n ≤ length sequences.old) × (n ≤ length turns.old) × (journal_numbers_per_edge * n ≤ length journal.old) }
-    ensures { Laid out.old 0 (outcome_lines n (outcome (lent (take (numbers_per_edge * n) edges.now) (take n polygons.old) (take n sequences.old) n (take (journal_numbers_per_edge * n) journal.old) (replicate 2048 (pos 0))))) out.new result }
-{
-    let numbers = Edge::NUMBERS * n;
-    let records = 8 * n;
     put_numbered(
-        &edges[..numbers],
+        edges,
         &mut polygons[..n],
         &mut sequences[..n],
         &mut turns[..n],
-        &mut journal[..records],
-        out,
+        &mut journal[..Edge::JOURNAL_NUMBERS * n],
+        output,
     )
 }
 
@@ -106,18 +78,14 @@ fn put_numbered(
     sequences: &mut [u32],
     turns: &mut [u32],
     journal: &mut [i32],
-    out: &mut [u8],
-) -> usize
-    requires { (length polygons.old ≤ 512) × (length sequences.old ≡ length polygons.old) }
-    ensures { Laid out.old 0 (outcome_lines (length polygons.old) (outcome (lent edges.now polygons.old sequences.old (length turns.old) journal.old (replicate 2048 (pos 0))))) out.new result }
+    output: &mut Output,
+)
+    requires { (output.old.at ≡ 0) × (length polygons.old ≤ 512) × (length sequences.old ≡ length polygons.old) }
+    ensures { Put output.old (outcome_lines (length polygons.old) (outcome (lent edges.now polygons.old sequences.old (length turns.old) journal.old (replicate 2048 (pos 0))))) output.new }
 {
     let mut rows = [0i32; ROWS];
     match assembly::assemble(edges, polygons, sequences, turns, journal, &mut rows) {
-        Answer::Accepted {
-            polygons: count,
-            peak,
-            records,
-        } => put_accepted(out, count, peak, records, polygons, sequences),
-        Answer::Refused(refusal) => put_refusal(out, refusal.number(), refusal.place()),
+        Ok(numbered) => output.put_accepted(numbered, polygons, sequences),
+        Err(refusal) => output.put_refusal(refusal.number(), refusal.place()),
     }
 }

@@ -1,63 +1,57 @@
-// The lines of the output, put at a place word by word. Each function answers the place after them.
+// The lines of the output, word by word.
 ghost use Rattle.std.specs.Prelude.{◌≡◌, ◌++◌, ◌+◌, ◌≤◌, ◌<◌, length};
 ghost use Rattle.printing.specs.Output.{accepted, refused, edge_line, edge_lines};
-ghost use Rattle.printing.specs.Laid.{Laid};
+ghost use Rattle.printing.specs.Laid.{Put};
 
-use crate::bytes::{put_number, put_word};
+use crate::bytes::Output;
+use sheet::Numbered;
 
-// An accepted sheet: the first line and the edges' lines.
-pub fn put_accepted(
-    out: &mut [u8],
-    count: u32,
-    peak: u32,
-    records: u32,
-    polygons: &[u32],
-    sequences: &[u32],
-) -> usize
-    requires { (length polygons.now ≤ 512) × (length sequences.now ≡ length polygons.now) }
-    ensures { Laid out.old 0 (accepted count peak records ++ edge_lines polygons.now sequences.now (length polygons.now)) out.new result }
-{
-    let next = put_counts(out, count, peak, records);
-    put_edge_lines(out, next, polygons, sequences)
-}
-
-fn put_counts(out: &mut [u8], count: u32, peak: u32, records: u32) -> usize
-    ensures { Laid out.old 0 (accepted count peak records) out.new result × (result ≤ 42) }
-{
-    let first = put_word(out, 0, b"accepted", b' ');
-    let second = put_number(out, first, count, b' ');
-    let third = put_number(out, second, peak, b' ');
-    put_number(out, third, records, b'\n')
-}
-
-// The edges in the opposite order of the input.
-fn put_edge_lines(out: &mut [u8], at: usize, polygons: &[u32], sequences: &[u32]) -> usize
-    requires { (at ≤ 100) × (length polygons.now ≤ 512) × (length sequences.now ≡ length polygons.now) }
-    ensures { Laid out.old at (edge_lines polygons.now sequences.now (length polygons.now)) out.new result }
-{
-    let mut next = at;
-    let mut place = polygons.len();
-    while 0 < place {
-        place -= 1;
-        next = put_edge(out, next, place, polygons[place], sequences[place]);
+impl Output<'_> {
+    // An accepted sheet: the first line and the edges' lines.
+    pub fn put_accepted(&mut self, numbered: Numbered, polygons: &[u32], sequences: &[u32])
+        requires { (self.old.at ≡ 0) × (length polygons.now ≤ 512) × (length sequences.now ≡ length polygons.now) }
+        ensures { Put self.old (accepted numbered ++ edge_lines polygons.now sequences.now (length polygons.now)) self.new }
+    {
+        self.put_counts(numbered);
+        self.put_edge_lines(polygons, sequences);
     }
-    next
-}
 
-// An edge's line: place, polygon, sequence.
-fn put_edge(out: &mut [u8], at: usize, place: usize, polygon: u32, sequence: u32) -> usize
-    requires { (at ≤ 90000) × (place < 512) }
-    ensures { Laid out.old at (edge_line place polygon sequence) out.new result × (result ≤ at + 33) }
-{
-    let first = put_number(out, at, place as u32, b' ');
-    let second = put_number(out, first, polygon, b' ');
-    put_number(out, second, sequence, b'\n')
-}
+    fn put_counts(&mut self, numbered: Numbered)
+        requires { self.old.at ≡ 0 }
+        ensures { Put self.old (accepted numbered) self.new × (self.new.at ≤ 42) }
+    {
+        self.put_word(b"accepted ");
+        self.put_number(numbered.polygons, b' ');
+        self.put_number(numbered.peak, b' ');
+        self.put_number(numbered.records, b'\n');
+    }
 
-pub fn put_refusal(out: &mut [u8], number: u32, place: u32) -> usize
-    ensures { Laid out.old 0 (refused number place) out.new result }
-{
-    let first = put_word(out, 0, b"refused", b' ');
-    let second = put_number(out, first, number, b' ');
-    put_number(out, second, place, b'\n')
+    // The edges in the opposite order of the input.
+    fn put_edge_lines(&mut self, polygons: &[u32], sequences: &[u32])
+        requires { (self.old.at ≤ 100) × (length polygons.now ≤ 512) × (length sequences.now ≡ length polygons.now) }
+        ensures { Put self.old (edge_lines polygons.now sequences.now (length polygons.now)) self.new }
+    {
+        for place in (0..polygons.len()).rev() {
+            self.put_edge(place, polygons[place], sequences[place]);
+        }
+    }
+
+    // An edge's line: place, polygon, sequence. The place is cast, since there are so few edges.
+    fn put_edge(&mut self, place: usize, polygon: u32, sequence: u32)
+        requires { (self.old.at ≤ 90000) × (place < 512) }
+        ensures { Put self.old (edge_line place polygon sequence) self.new × (self.new.at ≤ self.old.at + 33) }
+    {
+        self.put_number(place as u32, b' ');
+        self.put_number(polygon, b' ');
+        self.put_number(sequence, b'\n');
+    }
+
+    pub fn put_refusal(&mut self, number: u32, place: u32)
+        requires { self.old.at ≡ 0 }
+        ensures { Put self.old (refused number place) self.new }
+    {
+        self.put_word(b"refused ");
+        self.put_number(number, b' ');
+        self.put_number(place, b'\n');
+    }
 }

@@ -1,18 +1,15 @@
 -- What a branch's numbers say, side by side.
 use mathlib.Core.Path.{◌≡◌, refl}
-use mathlib.Core.Bool.{not, ◌&&◌}
+use mathlib.Core.Bool.{not}
 use mathlib.Core.List.{List}
-use Prim.Native.Nat.{ℕ, ◌+◌, ◌*◌}
-use native.Mathlib.Omega.{arith}
+use Prim.Native.Nat.{ℕ, ◌+◌}
 use lib.IntN.{ℤ, pos}
 use lib.ListN.{get_or}
 use lib.Signed.{non_neg, mag}
 use Rattle.steps.specs.declared.Side.{Side}
 use Rattle.steps.specs.declared.Side.TheVariants.{Rising, Falling}
 use Rattle.steps.specs.Rows.{on}
-use Rattle.steps.specs.SweepUp.{both_finished}
 use Rattle.rows.specs.Layout.{on_film, film_in, branch_at, look_branch, look_row}
-use Rattle.steps.specs.Swept.{numbers_per_row}
 
 module _ (s : List ℤ) (r : ℕ) where
   pub branch-is : (side : Side) → on side (look_row s r).branch ≡ look_branch s (film_in s r) (branch_at side r)
@@ -37,10 +34,3 @@ module _ (s : List ℤ) (r : ℕ) where
   pub one_film : (look_row s r).branch.falling.tip.film ≡ (look_row s r).branch.rising.tip.film
   unfolding look_row look_branch
   one_film = refl
-
-  pub both_is : both_finished (look_row s r) ≡ (not (non_neg (get_or s (numbers_per_row * r + 3) (pos 0))) && not (non_neg (get_or s (numbers_per_row * r + 6) (pos 0))))
-  unfolding look_row look_branch
-  both_is =
-      let three : numbers_per_row * r + 1 + 2 ≡ numbers_per_row * r + 3 = omega arith in
-      let six : numbers_per_row * r + 4 + 2 ≡ numbers_per_row * r + 6 = omega arith in
-      rw (three, six)

@@ -23,10 +23,10 @@ use Rattle.rows.proofs.Looking.{branch-is}
 use Rattle.steps.specs.Swept.{numbers_per_row}
 
 -- the numbers that are stored
-abbrev opening : ℕ → Place → List ℤ
+abbrev pub opening : ℕ → Place → List ℤ
 opening level p = pos (level + 1) ∷ p.point.x ∷ p.point.y ∷ pos 0 ∷ p.point.x ∷ p.point.y ∷ pos 0 ∷ p.film ∷ []
 
-abbrev moving : Place → ℕ → List ℤ
+abbrev pub moving : Place → ℕ → List ℤ
 moving p n = p.point.x ∷ p.point.y ∷ pos n ∷ []
 
 -- a freed number says that the row is free, and the same level

@@ -2,6 +2,7 @@
 -- What is accepted has none of 12 to 14 at any edge. So no polygon number is 0 and no pair comes twice; and from an edge one goes back, one number less
 -- at a time, to every smaller sequence number of its polygon, as from the largest polygon number to every smaller one. The other way round each
 -- refusal names something that a good numbering has not.
+use Rattle.std.specs.Prelude.{Result, Ok}
 use mathlib.Core.Path.{◌≡◌, refl, sym, ap, ◌∙◌}
 use mathlib.Core.Bool.{Bool, true, false, not, ◌&&◌}
 use mathlib.Core.List.{List}
@@ -17,8 +18,6 @@ use Rattle.laws.proofs.First.{first-least, first-none, some-below-true, none_bel
 use Rattle.laws.proofs.Largest.{largest-bound, largest-met, largest-is}
 use Rattle.sheet.specs.declared.TurnRefusal.{TurnRefusal}
 use Rattle.sheet.specs.declared.TurnRefusal.TheVariants.{TurnLengths, NoPolygon, PairRepeated, Gap}
-use Rattle.sheet.specs.declared.TurnAnswer.{TurnAnswer}
-use Rattle.sheet.specs.declared.TurnAnswer.TheVariants.{Accepted}
 use Rattle.sheet.specs.TurnList.{NumberLists, number_lists, no_polygon, pair_repeated, gap, refuse_turn, refuse_first_turn, lengths_differ, turned, GoodNumbering, GoodLists}
 use Rattle.sheet.specs.Sound.{AcceptsExactly}
 use Rattle.sheet.specs.Amounts.{most_edges}
@@ -36,13 +35,13 @@ not-and true b h e = not-false b h
 not-and false b h e = absurd (not-both e refl)
 
 -- what is accepted was not refused
-not-refused : (b : Bool) (r : TurnRefusal) (rest : TurnAnswer) {n : ℕ} → refuse_turn b r rest ≡ Accepted n → (b ≡ false) × (rest ≡ Accepted n)
+not-refused : (b : Bool) (r : TurnRefusal) (rest : Result ℕ TurnRefusal) {n : ℕ} → refuse_turn b r rest ≡ Ok n → (b ≡ false) × (rest ≡ Ok n)
 not-refused true r rest q = let z : ◌≡◌ {A = ℕ} 0 1 = cc in absurd (omega arith)
 not-refused false r rest q = (refl, q)
 
-none-refused : (v : NumberLists) (test : NumberLists → ℕ → Bool) (refusal : ℕ → TurnRefusal) (rest : TurnAnswer) {n : ℕ} →
-    refuse_first_turn v test refusal rest ≡ Accepted n →
-    ((e : ℕ) → e < v.edges → test v e ≡ false) × (rest ≡ Accepted n)
+none-refused : (v : NumberLists) (test : NumberLists → ℕ → Bool) (refusal : ℕ → TurnRefusal) (rest : Result ℕ TurnRefusal) {n : ℕ} →
+    refuse_first_turn v test refusal rest ≡ Ok n →
+    ((e : ℕ) → e < v.edges → test v e ≡ false) × (rest ≡ Ok n)
 none-refused v test refusal rest q =
     let w = not-refused (ltb (first (test v) v.edges) v.edges) (refusal (first (test v) v.edges)) rest q in
     (λ e l. first-least (test v) v.edges e (omega (arith, ltb-false (first (test v) v.edges) v.edges w.0)), w.1)
@@ -163,18 +162,18 @@ module _ (v : NumberLists) {n : ℕ} (G : GoodNumbering v n) where
   good-no-hole e l = rw (and-not _ _ (before-it e l), and-not _ _ (polygon-before e l)) refl
 
   -- none of the three refuses
-  pass : (test : NumberLists → ℕ → Bool) (refusal : ℕ → TurnRefusal) (rest : TurnAnswer) → ((e : ℕ) → e < v.edges → test v e ≡ false) → rest ≡ refuse_first_turn v test refusal rest
+  pass : (test : NumberLists → ℕ → Bool) (refusal : ℕ → TurnRefusal) (rest : Result ℕ TurnRefusal) → ((e : ℕ) → e < v.edges → test v e ≡ false) → rest ≡ refuse_first_turn v test refusal rest
   pass test refusal rest h = rw (le-ltb (first (test v) v.edges) v.edges (omega (arith, first-none (test v) v.edges h)))
 
-  good-answer : Accepted n ≡ refuse_first_turn v no_polygon NoPolygon (refuse_first_turn v pair_repeated PairRepeated (refuse_first_turn v gap Gap (Accepted (largest v.polygon v.edges))))
+  good-answer : Ok n ≡ refuse_first_turn v no_polygon NoPolygon (refuse_first_turn v pair_repeated PairRepeated (refuse_first_turn v gap Gap (Ok (largest v.polygon v.edges))))
   good-answer =
-      ap Accepted (sym good-largest)
+      ap Ok (sym good-largest)
       ∙ pass gap Gap _ good-no-hole
       ∙ pass pair_repeated PairRepeated _ good-once
       ∙ pass no_polygon NoPolygon _ good-polygon
 
 module _ (polygons sequences : List ℕ) (turns n : ℕ) where
-  accepted-good : turned polygons sequences turns ≡ Accepted n → GoodLists polygons sequences turns n
+  accepted-good : turned polygons sequences turns ≡ Ok n → GoodLists polygons sequences turns n
   unfolding turned lengths_differ number_lists
   accepted-good q =
       let w11 = not-refused (lengths_differ (length polygons) (length sequences) turns) TurnLengths _ q in
@@ -191,7 +190,7 @@ module _ (polygons sequences : List ℕ) (turns n : ℕ) where
         numbering = rw m at (good (number_lists polygons sequences) (record { has_polygon = w12.0; once = w13.0; no_hole = w14.0 }));
       }
 
-  good-accepted : GoodLists polygons sequences turns n → turned polygons sequences turns ≡ Accepted n
+  good-accepted : GoodLists polygons sequences turns n → turned polygons sequences turns ≡ Ok n
   unfolding turned lengths_differ number_lists
   good-accepted G =
       rw (eq-eqb (length polygons) (length sequences) (sym G.sequences_too), eq-eqb (length polygons) turns (sym G.turns_too), le-ltb most_edges (length polygons) G.few)

@@ -1,5 +1,6 @@
 -- The laws about points and lists that other crates may cite.
 pub mod Signed
+pub mod Comparing
 pub mod Shifting
 pub mod Ranks
 pub mod Places

@@ -1,6 +1,7 @@
 -- The refusals 1 to 9, 16 and 17 worked by the checks' own definition: one table of calls, each with the number and the place that the answer sheet gives it, and
 -- one test that is computed over all of it. Where a call has two faults the table says which is answered. 10 is worked with the sweeps, in numbering.
 -- A list of 4,097 edges is said and not written out: it is refused whatever else is lent, and 4,096 such edges get as far as their first fault.
+use Rattle.std.specs.Prelude.{Result, ⊤, Ok, Err}
 use Prim.Native.Nat.{ℕ, ◌*◌, ◌/◌}
 use mathlib.Core.Path.{◌≡◌, refl}
 use mathlib.Core.Bool.{Bool, true, ◌&&◌}
@@ -9,8 +10,6 @@ use lib.Dec.{eqb}
 use lib.IntN.{ℤ, pos, negsuc}
 use lib.ListN.{length, replicate, take}
 use Rattle.laws.specs.Counting as counting
-use Rattle.sheet.specs.declared.Check.{Check}
-use Rattle.sheet.specs.declared.Check.TheVariants.{Passed, Refused}
 use Rattle.sheet.specs.Points as points
 use Rattle.sheet.specs.Rank as ranks
 use Rattle.sheet.specs.Turning as turning
@@ -21,6 +20,7 @@ use Rattle.sheet.specs.Answers as answers
 use Rattle.sheet.specs.Answers.{Call, number_of, place_of, checked}
 use Rattle.sheet.specs.Amounts.{numbers_per_edge}
 use Rattle.sheet.proofs.Drawn.{triangle, two_edges, shared_side, side_twice, two_pixels, crossing, one_way}
+use Rattle.sheet.specs.declared.Refusal.{Refusal}
 
 -- a call, and the answer sheet's number and place for it; 0, 0 where it passes
 record Expected : Type 0 where
@@ -28,9 +28,9 @@ record Expected : Type 0 where
   number : ℕ
   place : ℕ
 
-answers_with : Check → ℕ → ℕ → Bool
-answers_with Passed number place = eqb number 0 && eqb place 0
-answers_with (Refused r) number place = eqb (number_of r) number && eqb (place_of r) place
+answers_with : Result ⊤ Refusal → ℕ → ℕ → Bool
+answers_with (Ok _) number place = eqb number 0 && eqb place 0
+answers_with (Err r) number place = eqb (number_of r) number && eqb (place_of r) place
 
 all_right : List Expected → Bool
 all_right [] = true

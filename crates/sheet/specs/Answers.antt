@@ -1,5 +1,5 @@
 -- The answer sheet of the numbering (01, "The answer sheet", and 16 and 17 of 02): each refusal's number and place, when it is given, what it leaves, the order of trying.
-use Rattle.std.specs.Prelude.{ℕ, zero, suc, ◌-◌, ◌*◌, ◌%◌, Bool, true, false, cond, not, ◌&&◌, ◌||◌, List, ◌++◌, eqb, ltb, ℤ, pos, length, replicate}
+use Rattle.std.specs.Prelude.{ℕ, zero, suc, ◌-◌, ◌*◌, ◌%◌, Bool, true, false, cond, not, ◌&&◌, ◌||◌, List, ◌++◌, eqb, ltb, ℤ, pos, length, replicate, Result, Ok, Err, ⊤}
 use Rattle.laws.specs.Counting.{some_below, first}
 use Rattle.sheet.specs.declared.Refusal.{Refusal}
 use Rattle.sheet.specs.declared.Refusal.TheVariants.{
@@ -16,10 +16,7 @@ use Rattle.sheet.specs.declared.Refusal.TheVariants.{
   NotAlternating,
   NoRow,
 }
-use Rattle.sheet.specs.declared.Check.{Check}
-use Rattle.sheet.specs.declared.Check.TheVariants as check
-use Rattle.sheet.specs.declared.Answer.{Answer}
-use Rattle.sheet.specs.declared.Answer.TheVariants as answer
+use Rattle.sheet.specs.declared.Numbered.{Numbered}
 use Rattle.sheet.specs.Points.{in_range, is_film, is_same, is_below, top_of}
 use Rattle.sheet.specs.Edges.{Drawing, edge_at, edges_in, drawing_of}
 use Rattle.sheet.specs.Kinds.{Way, arriving, leaving, same_from, end_of, comes, number_at}
@@ -127,16 +124,16 @@ unfoldable pub not_alternating : Drawing → ℕ → Bool
 not_alternating sh e = tangled sh (sh.tail e) || tangled sh (sh.head e)
 
 -- the refusal where the test holds, otherwise what is tried next
-abbrev pub refuse_if : Bool → Refusal → Check → Check
-refuse_if true r rest = check.Refused r
+abbrev pub refuse_if : Bool → Refusal → Result ⊤ Refusal → Result ⊤ Refusal
+refuse_if true r rest = Err r
 refuse_if false r rest = rest
 
 -- the refusal at the first of n edges where the test holds, otherwise what is tried next
-abbrev pub refuse_first : (ℕ → Bool) → ℕ → (ℕ → Refusal) → Check → Check
+abbrev pub refuse_first : (ℕ → Bool) → ℕ → (ℕ → Refusal) → Result ⊤ Refusal → Result ⊤ Refusal
 refuse_first test n refusal rest = refuse_if (ltb (first test n) n) (refusal (first test n)) rest
 
 -- the order under the table: 1 to 4; the first edge with 5, 16, 6 or 7; 8 over the whole list; 9 over the whole list; 17 over the whole list
-unfoldable pub checked : Call → Check
+unfoldable pub checked : Call → Result ⊤ Refusal
 checked c =
     refuse_if (not_whole c) NotWhole
     (refuse_if (too_many c) TooMany
@@ -146,12 +143,16 @@ checked c =
     (refuse_first (repeats (drawing_of c.list)) (edges_in c.list) Repeated
     (refuse_first (uneven (drawing_of c.list)) (edges_in c.list) Uneven
     (refuse_first (not_alternating (drawing_of c.list)) (edges_in c.list) NotAlternating
-    check.Passed)))))))
+    (Ok tt))))))))
 
 -- the checks come first; where they are passed the steps answer, which may still refuse with 10
-abbrev pub answered : Check → Answer → Answer
-answered (check.Refused r) steps = answer.Refused r
-answered check.Passed steps = steps
+abbrev pub answered : Result ⊤ Refusal → Result Numbered Refusal → Result Numbered Refusal
+answered (Err r) steps = Err r
+answered (Ok _) steps = steps
+
+-- accepted: the polygons, the peak, the records
+abbrev pub accepted : ℕ → ℕ → ℕ → Result Numbered Refusal
+accepted polygons peak records = Ok (record { polygons = polygons; peak = peak; records = records })
 
 abbrev pub zeros : List ℤ → List ℤ
 zeros l = replicate (length l) (pos 0)

@@ -1,11 +1,10 @@
 -- Words of the paper that laws and contracts of inner crates use: sweep order, a sound list, which lists a turn list is read from.
 -- The promises of the exported calls do not rest on them.
-use Rattle.std.specs.Prelude.{ℕ, ◌+◌, ◌≤◌, ◌<◌, ◌≡◌, List, ◌↔◌}
-use Rattle.sheet.specs.declared.TurnAnswer.{TurnAnswer}
-use Rattle.sheet.specs.declared.TurnAnswer.TheVariants.{Accepted}
+use Rattle.std.specs.Prelude.{ℕ, ◌+◌, ◌≤◌, ◌<◌, ◌≡◌, List, ◌↔◌, Result, Ok}
 use Rattle.sheet.specs.Edges.{Drawing, top_height}
 use Rattle.sheet.specs.Kinds.{Way, arriving, leaving, end_of, comes, number_at}
 use Rattle.sheet.specs.TurnList.{GoodLists}
+use Rattle.sheet.specs.declared.TurnRefusal.{TurnRefusal}
 
 -- 01 Points 3.3: along the list the tops never fall
 abbrev pub SweepOrder : Drawing → Type 0
@@ -17,5 +16,5 @@ pub record Sound (sh : Drawing) : Type 0 where
   pub even : (p : ℕ) → number_at sh arriving p ≡ number_at sh leaving p
 
 -- 01: an answer accepts exactly these, each with its number of polygons. `turned` does (proofs/ExactlyAccepted.antt).
-abbrev pub AcceptsExactly : List ℕ → List ℕ → ℕ → TurnAnswer → Type 0
-AcceptsExactly polygons sequences turns r = (n : ℕ) → (r ≡ Accepted n) ↔ GoodLists polygons sequences turns n
+abbrev pub AcceptsExactly : List ℕ → List ℕ → ℕ → Result ℕ TurnRefusal → Type 0
+AcceptsExactly polygons sequences turns r = (n : ℕ) → (r ≡ Ok n) ↔ GoodLists polygons sequences turns n

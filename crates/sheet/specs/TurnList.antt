@@ -1,10 +1,8 @@
 -- The turn list: refusals 11 to 14 in their order, and what an accepted one holds (01, the last paragraph of "The answer sheet").
-use Rattle.std.specs.Prelude.{ℕ, ◌+◌, ◌≤◌, ◌<◌, ◌≡◌, Bool, true, false, not, ◌&&◌, ◌||◌, List, ◌⊎◌, eqb, ltb, length, get_or}
+use Rattle.std.specs.Prelude.{ℕ, ◌+◌, ◌≤◌, ◌<◌, ◌≡◌, Bool, true, false, not, ◌&&◌, ◌||◌, List, ◌⊎◌, eqb, ltb, length, get_or, Result, Ok, Err}
 use Rattle.laws.specs.Counting.{some_below, first, largest}
 use Rattle.sheet.specs.declared.TurnRefusal.{TurnRefusal}
 use Rattle.sheet.specs.declared.TurnRefusal.TheVariants.{TurnLengths, NoPolygon, PairRepeated, Gap}
-use Rattle.sheet.specs.declared.TurnAnswer.{TurnAnswer}
-use Rattle.sheet.specs.declared.TurnAnswer.TheVariants as answer
 use Rattle.sheet.specs.Amounts.{most_edges}
 
 abbrev pub turn_number_of : TurnRefusal → ℕ
@@ -42,11 +40,11 @@ gap v e =
     (ltb 0 (v.sequence e) && not (some_below (λ f. eqb (v.polygon f) (v.polygon e) && eqb (v.sequence f + 1) (v.sequence e)) v.edges))
     || (ltb 1 (v.polygon e) && not (some_below (λ f. eqb (v.polygon f + 1) (v.polygon e)) v.edges))
 
-abbrev pub refuse_turn : Bool → TurnRefusal → TurnAnswer → TurnAnswer
-refuse_turn true r rest = answer.Refused r
+abbrev pub refuse_turn : Bool → TurnRefusal → Result ℕ TurnRefusal → Result ℕ TurnRefusal
+refuse_turn true r rest = Err r
 refuse_turn false r rest = rest
 
-abbrev pub refuse_first_turn : NumberLists → (NumberLists → ℕ → Bool) → (ℕ → TurnRefusal) → TurnAnswer → TurnAnswer
+abbrev pub refuse_first_turn : NumberLists → (NumberLists → ℕ → Bool) → (ℕ → TurnRefusal) → Result ℕ TurnRefusal → Result ℕ TurnRefusal
 refuse_first_turn v test refusal rest = refuse_turn (ltb (first (test v) v.edges) v.edges) (refusal (first (test v) v.edges)) rest
 
 -- 11: not three lengths that are equal and at most 4,096
@@ -54,13 +52,13 @@ unfoldable pub lengths_differ : ℕ → ℕ → ℕ → Bool
 lengths_differ polygons sequences turns = not (eqb polygons sequences && eqb polygons turns) || ltb most_edges polygons
 
 -- the order of trying, 12 to 14 each over the whole list; what is accepted has as many polygons as its largest number
-unfoldable pub turned : List ℕ → List ℕ → ℕ → TurnAnswer
+unfoldable pub turned : List ℕ → List ℕ → ℕ → Result ℕ TurnRefusal
 turned polygons sequences turns =
     refuse_turn (lengths_differ (length polygons) (length sequences) turns) TurnLengths
     (refuse_first_turn (number_lists polygons sequences) no_polygon NoPolygon
     (refuse_first_turn (number_lists polygons sequences) pair_repeated PairRepeated
     (refuse_first_turn (number_lists polygons sequences) gap Gap
-    (answer.Accepted (largest (λ e. get_or polygons e 0) (length polygons))))))
+    (Ok (largest (λ e. get_or polygons e 0) (length polygons))))))
 
 -- What is accepted, in 01's words. The polygon numbers run from 1 without a gap, and there are so many of them; in each polygon the sequence numbers
 -- run from 0 without gap or repeat: no pair comes twice, and every number below an edge's is there.
@@ -88,6 +86,6 @@ pub record TurnList (v : NumberLists) (turns : List ℕ) : Type 0 where
   pub in_order : (i j : ℕ) → i < j → j < v.edges → Before v (get_or turns i 0) (get_or turns j 0)
 
 -- what stands in the turn list after the call: a refusal leaves what stood there
-abbrev pub TurnsAfter : List ℕ → List ℕ → TurnAnswer → List ℕ → List ℕ → Type 0
-TurnsAfter polygons sequences (answer.Refused r) before after = after ≡ before
-TurnsAfter polygons sequences (answer.Accepted n) before after = TurnList (number_lists polygons sequences) after
+abbrev pub TurnsAfter : List ℕ → List ℕ → Result ℕ TurnRefusal → List ℕ → List ℕ → Type 0
+TurnsAfter polygons sequences (Err r) before after = after ≡ before
+TurnsAfter polygons sequences (Ok n) before after = TurnList (number_lists polygons sequences) after

@@ -1,5 +1,5 @@
 // Points and edges with what belongs to them: the order, sameness, top, bottom, up or down, the range, the rank.
-// Then the answers of the two calls. What each means is defined in specs/, in the paper's words.
+// Then what the two calls answer: a result, or why not. What each means is defined in specs/, in the paper's words.
 #![tactic(auto)]
 
 ghost use Rattle.std.specs.Prelude.{◌≡◌, ◌+◌, ◌*◌, ◌<◌, min, max, length};
@@ -10,10 +10,11 @@ ghost use Rattle.sheet.specs.Answers.{number_of, place_of};
 ghost use Rattle.sheet.specs.TurnList.{turn_number_of, turn_place_of};
 ghost use Rattle.sheet.specs.Amounts.{numbers_per_edge};
 
-#[derive(Clone, Copy)]
+// Points are in order as their coordinates stand here: by y, and at equal y by x.
+#[derive(Clone, Copy, Debug, PartialEq, Eq, PartialOrd, Ord)]
 pub struct Point {
-    pub x: i32,
     pub y: i32,
+    pub x: i32,
 }
 
 impl Point {
@@ -26,36 +27,26 @@ impl Point {
     pub fn below(self, other: Point) -> bool
         ensures { result ≡ is_below self other }
     {
-        if self.y == other.y {
-            return self.x < other.x;
-        }
-        self.y < other.y
+        self < other
     }
 
     pub fn same(self, other: Point) -> bool
         ensures { result ≡ is_same self other }
     {
-        if self.y == other.y {
-            return self.x == other.x;
-        }
-        false
+        self == other
     }
 
     pub fn in_range(self) -> bool
         ensures { result ≡ in_range self }
     {
-        let x = self.x;
-        let y = self.y;
-        between_limits(x) && between_limits(y)
+        between_limits(self.x) && between_limits(self.y)
     }
 
     // One number for a point. In the range it orders points as below does and tells them apart.
     pub fn rank(self) -> u64
         ensures { result ≡ rank self }
     {
-        let y = shifted(self.y);
-        let x = shifted(self.x);
-        (y as u64) * 2_097_152 + (x as u64)
+        u64::from(shifted(self.y)) * 2_097_152 + u64::from(shifted(self.x))
     }
 }
 
@@ -63,20 +54,17 @@ impl Point {
 fn between_limits(c: i32) -> bool
     ensures { result ≡ within c }
 {
-    Point::LEAST <= c && c <= Point::MOST
+    (Point::LEAST..=Point::MOST).contains(&c)
 }
 
 // A coordinate moved up by a million, so that the least is 0.
 fn shifted(c: i32) -> u32
     ensures { result ≡ shift c }
 {
-    if c < Point::LEAST {
-        return 0;
-    }
-    ((c as i64) + 1_000_000) as u32
+    c.max(Point::LEAST).abs_diff(Point::LEAST)
 }
 
-#[derive(Clone, Copy)]
+#[derive(Clone, Copy, Debug, PartialEq, Eq)]
 pub struct Edge {
     pub tail: Point,
     pub head: Point,
@@ -118,82 +106,60 @@ impl Edge {
     pub fn film_in_range(self) -> bool
         ensures { result ≡ is_film self.film }
     {
-        let film = self.film;
-        0 <= film && film < Edge::FILMS
+        (0..Edge::FILMS).contains(&self.film)
     }
 
     // Whether the head is the higher end.
     pub fn is_up(self) -> bool
         ensures { result ≡ is_up self }
     {
-        let tail = self.tail;
-        let head = self.head;
-        tail.below(head)
+        self.tail.below(self.head)
     }
 
     // The higher end.
     pub fn top(self) -> Point
         ensures { result ≡ top_of self }
     {
-        let tail = self.tail;
-        let head = self.head;
-        if tail.below(head) { head } else { tail }
+        self.tail.max(self.head)
     }
 
     // The lower end.
     pub fn bottom(self) -> Point
         ensures { result ≡ bottom_of self }
     {
-        let tail = self.tail;
-        let head = self.head;
-        if tail.below(head) { tail } else { head }
+        self.tail.min(self.head)
     }
 
     pub fn tail_rank(self) -> u64
         ensures { result ≡ rank self.tail }
     {
-        let tail = self.tail;
-        tail.rank()
+        self.tail.rank()
     }
 
     pub fn head_rank(self) -> u64
         ensures { result ≡ rank self.head }
     {
-        let head = self.head;
-        head.rank()
+        self.head.rank()
     }
 
     // The rank of the higher end, where both are in the range: two numbers are chosen between without a branch.
     pub fn top_rank(self) -> u64
         ensures { result ≡ max (rank self.tail) (rank self.head) }
     {
-        higher(self.tail_rank(), self.head_rank())
+        self.tail_rank().max(self.head_rank())
     }
 
     // The rank of the lower end, likewise.
     pub fn bottom_rank(self) -> u64
         ensures { result ≡ min (rank self.tail) (rank self.head) }
     {
-        lower(self.tail_rank(), self.head_rank())
+        self.tail_rank().min(self.head_rank())
     }
 }
 
-// The higher of two ranks.
-fn higher(a: u64, b: u64) -> u64
-    ensures { result ≡ max a b }
-{
-    if a < b { b } else { a }
-}
-
-// The lower of two ranks.
-fn lower(a: u64, b: u64) -> u64
-    ensures { result ≡ min a b }
-{
-    if a < b { a } else { b }
-}
-
-// Why the numbering refuses a call. Each has its number and its place in the paper; the place is an edge's where one is held.
-#[derive(Clone, Copy)]
+// Why the numbering refuses a call. Each has its number and its place in the paper; the place is an edge's where one is held. Each kind of refusal has numbers of its
+// own, so a trait over `number` and `place` would have nothing to share.
+#[derive(Clone, Copy, Debug, PartialEq, Eq)]
 pub enum Refusal {
     NotWhole,
     TooMany,
@@ -233,42 +199,30 @@ impl Refusal {
         ensures { result ≡ place_of self }
     {
         match self {
-            Refusal::NotWhole => 0,
-            Refusal::TooMany => 0,
-            Refusal::ListsDiffer => 0,
-            Refusal::JournalShort => 0,
-            Refusal::PastRange(e) => e,
-            Refusal::FilmPastRange(e) => e,
-            Refusal::EqualEnds(e) => e,
-            Refusal::TopFalls(e) => e,
-            Refusal::Repeated(e) => e,
-            Refusal::Uneven(e) => e,
-            Refusal::NotAlternating(e) => e,
-            Refusal::NoRow(e) => e,
+            Refusal::NotWhole | Refusal::TooMany | Refusal::ListsDiffer | Refusal::JournalShort =>
+                0,
+            Refusal::PastRange(e)
+            | Refusal::FilmPastRange(e)
+            | Refusal::EqualEnds(e)
+            | Refusal::TopFalls(e)
+            | Refusal::Repeated(e)
+            | Refusal::Uneven(e)
+            | Refusal::NotAlternating(e)
+            | Refusal::NoRow(e) => e,
         }
     }
 }
 
-// What the checks before the sweeps answer.
-#[derive(Clone, Copy)]
-pub enum Check {
-    Passed,
-    Refused(Refusal),
-}
-
-// What the numbering answers.
-#[derive(Clone, Copy)]
-pub enum Answer {
-    Accepted {
-        polygons: u32,
-        peak: u32,
-        records: u32,
-    },
-    Refused(Refusal),
+// What the numbering of an accepted list answers: the polygons, the most rows in use at once, the records.
+#[derive(Clone, Copy, Debug, PartialEq, Eq)]
+pub struct Numbered {
+    pub polygons: u32,
+    pub peak: u32,
+    pub records: u32,
 }
 
 // Why a turn list is refused.
-#[derive(Clone, Copy)]
+#[derive(Clone, Copy, Debug, PartialEq, Eq)]
 pub enum TurnRefusal {
     TurnLengths,
     NoPolygon(u32),
@@ -293,16 +247,7 @@ impl TurnRefusal {
     {
         match self {
             TurnRefusal::TurnLengths => 0,
-            TurnRefusal::NoPolygon(e) => e,
-            TurnRefusal::PairRepeated(e) => e,
-            TurnRefusal::Gap(e) => e,
+            TurnRefusal::NoPolygon(e) | TurnRefusal::PairRepeated(e) | TurnRefusal::Gap(e) => e,
         }
     }
-}
-
-// What the turn list answers: the number of polygons, or why not.
-#[derive(Clone, Copy)]
-pub enum TurnAnswer {
-    Accepted(u32),
-    Refused(TurnRefusal),
 }

@@ -1,19 +1,12 @@
 -- Whole numbers as single-precision numbers. Up to 2 ^ 24 in size each of them has a float of its own: the cast may be asked for it, and rounds nothing.
 use mathlib.Core.Path.{◌≡◌, refl}
 use Prim.Native.Nat.{◌≤◌}
-use lib.Dec.{T, le→leb, lt→ltb}
 use lib.IntN.{ℤ, pos, negsuc, nat_abs}
-use lib.Ieee.{binary32, of_int, in_float}
+use lib.Ieee.{binary32, of_int}
 use lib.Ieee.Back.{round_whole}
 use Rattle.singles.specs.Singles.{is_negative, Exactly, single}
 
--- what the cast asks
-pub in-float : (z : ℤ) → nat_abs z ≤ 16777216 → T (in_float binary32 z)
-unfolding in_float
-in-float (pos n) h = le→leb n 16777216 h
-in-float (negsuc n) h = lt→ltb n 16777216 h
-
--- what it gives
+-- what the cast gives
 pub of_int_is : (z : ℤ) → of_int binary32 z ≡ single z 1
 unfolding of_int single
 of_int_is (pos n) = refl

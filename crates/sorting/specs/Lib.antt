@@ -1,4 +1,2 @@
 -- What a sorted slice is.
 pub mod Sorted
-pub mod Parts
-pub mod Merging

@@ -2,6 +2,7 @@
 -- each write and records are kept, every step in one room has its like in the other. So what is shown of plain tables holds of slices. The first run
 -- looks only as far as rows have been opened, and there its reach is its peak; the second may look further, at rows that were never opened. A place of the
 -- first has a film, edges and rows keep to one, and so a row may say its film once.
+use Rattle.std.specs.Prelude.{Option, Some, None, Result, ⊤, Ok, Err}
 use mathlib.Core.Path.{◌≡◌, refl, sym, ap, ◌∙◌, subst}
 use mathlib.Core.Bool.{Bool, true, false, not, ◌&&◌, cond}
 use Prim.Native.Nat.{ℕ, zero, suc, ◌+◌, max, ◌≤◌, ◌<◌}
@@ -14,24 +15,21 @@ use Rattle.laws.specs.Counting.{count, first}
 use Rattle.laws.proofs.Further.{first-further, count-further}
 use Rattle.steps.specs.declared.Side.{Side}
 use Rattle.steps.specs.declared.Side.TheVariants.{Rising, Falling}
-use Rattle.steps.specs.declared.Found.{Found}
-use Rattle.steps.specs.declared.Found.TheVariants.{At, Nothing}
-use Rattle.steps.specs.declared.End.{End}
-use Rattle.steps.specs.declared.End.TheVariants.{Done, NoFreeRow, Overrun}
 use Rattle.steps.specs.Rows.{other_side, on, Branch, Row, Chain, in_row, closing, Record, LevelEdge, Room, lowest_free}
 use Rattle.steps.specs.SweepUp as up
 use Rattle.steps.specs.SweepUp.{State, Sweep, has_tip, as_edge, bottom, top, side_of, longer, chain_record, found_below, most_length, levels}
 use Rattle.steps.proofs.Finding.{found_at, found-same}
 use Rattle.steps.proofs.Alone.{Alone, opened-name, chosen-up-to}
+use Rattle.steps.specs.declared.Halt.{Halt}
+use Rattle.steps.specs.declared.Halt.TheVariants.{NoFreeRow, Overrun}
 
 -- going on after two treatments that ended alike
-after_both : {A A' : Type 0} (R : A → A' → Type 0) {u u' : End} → u ≡ u' → {x y : A} {x' y' : A'} → R x x' → (u ≡ Done → R y y') → R (up.after_done u x y) (up.after_done u' x' y')
+after_both : {A A' : Type 0} (R : A → A' → Type 0) {u u' : Result ⊤ Halt} → u ≡ u' → {x y : A} {x' y' : A'} → R x x' → (u ≡ Ok tt → R y y') → R (up.after_done u x y) (up.after_done u' x' y')
 after_both {A} {A'} R {u} e {x} {y} {x'} {y'} h f = subst (λ v. R (up.after_done u x y) (up.after_done v x' y')) e (by u f)
   where
-    by : (v : End) → (v ≡ Done → R y y') → R (up.after_done v x y) (up.after_done v x' y')
-    by Done g = g refl
-    by NoFreeRow g = h
-    by Overrun g = h
+    by : (v : Result ⊤ Halt) → (v ≡ Ok tt → R y y') → R (up.after_done v x y) (up.after_done v x' y')
+    by (Ok _) g = g refl
+    by (Err _) g = h
 
 module _ {P P' : Type 0} (R : P → P' → Type 0) where
   pub record AlikeBranch (b : Branch P) (b' : Branch P') : Type 0 where
@@ -98,7 +96,7 @@ module _ {P T J P' T' J' : Type 0} {room : Room P T J} {room' : Room P' T' J'} {
     pub end : s.end ≡ s'.end
     pub named : s.reach ≤ room.rows
     pub kept : s.records ≤ room.records
-    pub little : s.end ≡ Done → s.reach ≤ s.records + d
+    pub little : s.end ≡ Ok tt → s.reach ≤ s.records + d
     pub since : k ≤ s.reach
 
   -- before the first edge
@@ -163,7 +161,7 @@ module _ {P T J P' T' J' : Type 0} {room : Room P T J} {room' : Room P' T' J'} {
     can-open-alike = λ i. ltb (in-use-alike i) (M.share i) && ltb (chosen-alike i) (M.rows i)
 
   -- the same states with other rows and another end
-  changed : {d d' k k' : ℕ} {s : State T J} {s' : State T' J'} {t : T} {t' : T'} {x x' : End} → Rows s.reach t t' → x ≡ x' → (x ≡ Done → s.reach ≤ s.records + d') → k' ≤ s.reach → Alike d k s s' → Alike d' k' (up.ended x (up.with_rows t s)) (up.ended x' (up.with_rows t' s'))
+  changed : {d d' k k' : ℕ} {s : State T J} {s' : State T' J'} {t : T} {t' : T'} {x x' : Result ⊤ Halt} → Rows s.reach t t' → x ≡ x' → (x ≡ Ok tt → s.reach ≤ s.records + d') → k' ≤ s.reach → Alike d k s s' → Alike d' k' (up.ended x (up.with_rows t s)) (up.ended x' (up.with_rows t' s'))
   changed h e l m A = record {
     rows = h;
     journal = A.journal;
@@ -185,14 +183,14 @@ module _ {P T J P' T' J' : Type 0} {room : Room P T J} {room' : Room P' T' J'} {
   with_rows_lem h A = changed h A.end A.little A.since A
 
   -- a state that ended early
-  end-early : {d k : ℕ} {s : State T J} {s' : State T' J'} (x : End) → (x ≡ Done → ⊥) → Alike d k s s' → Alike 0 k (up.ended x s) (up.ended x s')
+  end-early : {d k : ℕ} {s : State T J} {s' : State T' J'} (x : Result ⊤ Halt) → (x ≡ Ok tt → ⊥) → Alike d k s s' → Alike 0 k (up.ended x s) (up.ended x s')
   end-early x n A = changed A.rows refl (λ e. absurd (n e)) A.since A
 
   free-there : (s : State T J) → up.can_open room s ≡ true → up.chosen room s < room.rows
   unfolding up.can_open
   free-there s t = ltb-true (up.chosen room s) room.rows (both_true (ltb (up.in_use room s) room.share) _ t).1
 
-  open-alike : {k : ℕ} {s : State T J} {s' : State T' J'} (A : Alike 0 k s s') (level : ℕ) {p : P} {p' : P'} → R p p' → s.end ≡ Done → up.chosen room s < room.rows → Alike 1 k (up.open_row room s (up.chosen room s) level p) (up.open_row room' s' (up.chosen room s) level p')
+  open-alike : {k : ℕ} {s : State T J} {s' : State T' J'} (A : Alike 0 k s s') (level : ℕ) {p : P} {p' : P'} → R p p' → s.end ≡ Ok tt → up.chosen room s < room.rows → Alike 1 k (up.open_row room s (up.chosen room s) level p) (up.open_row room' s' (up.chosen room s) level p')
   unfolding up.open_row
   open-alike {k} {s} {s'} A level {p} {p'} h done l =
       record {
@@ -277,8 +275,8 @@ module _ {P T J P' T' J' : Type 0} {room : Room P T J} {room' : Room P' T' J'} {
   pick-alike false true e f g = absurd (not-both refl (sym e))
   pick-alike false false e f g = g refl
 
-  overrun : {d k : ℕ} {s : State T J} {s' : State T' J'} → Alike d k s s' → Alike 0 k (up.ended Overrun s) (up.ended Overrun s')
-  overrun A = end-early Overrun (λ x. let z : ◌≡◌ {A = ℕ} 0 1 = cc in omega arith) A
+  overrun : {d k : ℕ} {s : State T J} {s' : State T' J'} → Alike d k s s' → Alike 0 k (up.ended (Err Overrun) s) (up.ended (Err Overrun) s')
+  overrun A = end-early (Err Overrun) (λ x. let z : ◌≡◌ {A = ℕ} 0 1 = cc in omega arith) A
 
   -- writing leaves the reach
   write-reach : (s : State T J) (entry : Record) → (up.write room s entry).reach ≡ s.reach
@@ -317,7 +315,7 @@ module _ {P T J P' T' J' : Type 0} {room : Room P T J} {room' : Room P' T' J'} {
   free-alike A r l = with_rows_lem (M.freed A.rows r l) A
 
   -- going on after a treatment
-  after-alike : {k : ℕ} {x : State T J} {x' : State T' J'} → Alike 0 k x x' → {y : State T J} {y' : State T' J'} → (x.end ≡ Done → Alike 0 k y y') → Alike 0 k (up.after_done x.end x y) (up.after_done x'.end x' y')
+  after-alike : {k : ℕ} {x : State T J} {x' : State T' J'} → Alike 0 k x x' → {y : State T J} {y' : State T' J'} → (x.end ≡ Ok tt → Alike 0 k y y') → Alike 0 k (up.after_done x.end x y) (up.after_done x'.end x' y')
   after-alike {k} A f = after_both (Alike 0 k) A.end A f
 
   -- the row's tip is at the place that was looked for
@@ -327,17 +325,17 @@ module _ {P T J P' T' J' : Type 0} {room : Room P T J} {room' : Room P' T' J'} {
       let b = (both_true (eqb row.level level) _ t).1 in
       (both_true (not (on side row.branch).finished) _ b).1
 
-  found-tip : (s : State T J) (level : ℕ) (side : Side) (p : P) (q : ℕ) → up.find room s level side p ≡ At q → (q < s.reach) × (film (on side (up.look room s q).branch).tip ≡ film p)
+  found-tip : (s : State T J) (level : ℕ) (side : Side) (p : P) (q : ℕ) → up.find room s level side p ≡ Some q → (q < s.reach) × (film (on side (up.look room s q).branch).tip ≡ film p)
   unfolding up.find
   found-tip s level side p q h =
       let w = found_at _ s.reach q h in
       (w.0, M.same_film (tip-there level side p (up.look room s q) (both_true (room.table.mine s.rows q) _ w.1).1))
 
-  found-small : {k : ℕ} {s : State T J} {s' : State T' J'} → Alike 0 k s s' → s.end ≡ Done → (level : ℕ) (side : Side) (e : LevelEdge P) (q : ℕ) → up.meeting room s level side e ≡ At q → (q < s.reach) × (q ≤ most)
+  found-small : {k : ℕ} {s : State T J} {s' : State T' J'} → Alike 0 k s s' → s.end ≡ Ok tt → (level : ℕ) (side : Side) (e : LevelEdge P) (q : ℕ) → up.meeting room s level side e ≡ Some q → (q < s.reach) × (q ≤ most)
   unfolding up.meeting up.pick_meeting up.find
   found-small {k} {s} A done level side e q h = by e.apart h
     where
-      by : (t : Bool) → up.pick_meeting t (found_below (λ r. room.table.mine s.rows r && has_tip room.places level (other_side side) (top side e) (up.look room s r)) s.reach) ≡ At q → (q < s.reach) × (q ≤ most)
+      by : (t : Bool) → up.pick_meeting t (found_below (λ r. room.table.mine s.rows r && has_tip room.places level (other_side side) (top side e) (up.look room s r)) s.reach) ≡ Some q → (q < s.reach) × (q ≤ most)
       by true u = let z : ◌≡◌ {A = ℕ} 0 1 = cc in absurd (omega arith)
       by false u = let l = (found_at _ s.reach q u).0 in (l, omega (arith, l, A.little done, A.kept, M.names))
 
@@ -355,8 +353,8 @@ module _ {P T J P' T' J' : Type 0} {room : Room P T J} {room' : Room P' T' J'} {
       }
 
   -- the next level is treated alike
-  module _ (next : (State T J → LevelEdge P → State T J)) (next' : (State T' J' → LevelEdge P' → State T' J')) (alike : (k : ℕ) (s : State T J) (s' : State T' J') (e : LevelEdge P) (e' : LevelEdge P') → Alike 0 k s s' → s.end ≡ Done → AlikeEdge R film most e e' → Alike 0 k (next s e) (next' s' e')) where
-    pass-up-alike : {k : ℕ} {s : State T J} {s' : State T' J'} → Alike 0 k s s' → s.end ≡ Done → (r : ℕ) → r < k → r ≤ most → Alike 0 k (up.pass_up room next s r) (up.pass_up room' next' s' r)
+  module _ (next : (State T J → LevelEdge P → State T J)) (next' : (State T' J' → LevelEdge P' → State T' J')) (alike : (k : ℕ) (s : State T J) (s' : State T' J') (e : LevelEdge P) (e' : LevelEdge P') → Alike 0 k s s' → s.end ≡ Ok tt → AlikeEdge R film most e e' → Alike 0 k (next s e) (next' s' e')) where
+    pass-up-alike : {k : ℕ} {s : State T J} {s' : State T' J'} → Alike 0 k s s' → s.end ≡ Ok tt → (r : ℕ) → r < k → r ≤ most → Alike 0 k (up.pass_up room next s r) (up.pass_up room' next' s' r)
     unfolding up.pass_up up.free
     pass-up-alike {k} {s} {s'} A done r l m =
         let a = M.look A.rows r (omega (arith, A.since)) in
@@ -364,16 +362,16 @@ module _ {P T J P' T' J' : Type 0} {room : Room P T J} {room' : Room P' T' J'} {
         (λ q. alike k (up.free room s r) (up.free room' s' r) _ _ (free-alike A r (omega (arith, l, A.since))) done (edge-alike r m a (M.row_film s.rows r)))
         (λ q. A)
 
-    pass-both-alike : {k : ℕ} {s : State T J} {s' : State T' J'} → Alike 0 k s s' → s.end ≡ Done → (q r : ℕ) → q < k → q ≤ most → r < k → r ≤ most → Alike 0 k (up.pass_both room next s q r) (up.pass_both room' next' s' q r)
+    pass-both-alike : {k : ℕ} {s : State T J} {s' : State T' J'} → Alike 0 k s s' → s.end ≡ Ok tt → (q r : ℕ) → q < k → q ≤ most → r < k → r ≤ most → Alike 0 k (up.pass_both room next s q r) (up.pass_both room' next' s' q r)
     unfolding up.pass_both
     pass-both-alike A done q r ql qm rl rm =
         let B = pass-up-alike A done q ql qm in
         pick-alike (eqb q r) (eqb q r) refl (λ u. B) (λ u. after-alike B (λ v. pass-up-alike B v r rl rm))
 
-    meet-alike : {k : ℕ} {s : State T J} {s' : State T' J'} → Alike 0 k s s' → s.end ≡ Done → (side : Side) (r : ℕ) → r < k → r ≤ most → (f : Found) → ((q : ℕ) → f ≡ At q → (q < k) × (q ≤ most)) → Alike 0 k (up.meet room next s side r f) (up.meet room' next' s' side r f)
+    meet-alike : {k : ℕ} {s : State T J} {s' : State T' J'} → Alike 0 k s s' → s.end ≡ Ok tt → (side : Side) (r : ℕ) → r < k → r ≤ most → (f : Option ℕ) → ((q : ℕ) → f ≡ Some q → (q < k) × (q ≤ most)) → Alike 0 k (up.meet room next s side r f) (up.meet room' next' s' side r f)
     unfolding up.meet up.finish
-    meet-alike A done side r l m Nothing g = A
-    meet-alike A done side r l m (At q) g =
+    meet-alike A done side r l m None g = A
+    meet-alike A done side r l m (Some q) g =
         let b = g q refl in
         pass-both-alike (finish-alike (finish-alike A q (other_side side) (omega (arith, b.0, A.since))) r side (omega (arith, l, A.since))) done q r b.0 b.1 l m
 
@@ -394,12 +392,12 @@ module _ {P T J P' T' J' : Type 0} {room : Room P T J} {room' : Room P' T' J'} {
         weaken (omega arith) C (omega (arith, A.since, B.since, C.since))
 
     -- step 1: the row found, or a free one opened, or none
-    in-chain-alike : {k : ℕ} {s : State T J} {s' : State T' J'} → Alike 0 k s s' → s.end ≡ Done → (level : ℕ) → level ≤ levels → (side : Side) {e : LevelEdge P} {e' : LevelEdge P'} → AlikeEdge R film most e e' → (f : Found) → ((q : ℕ) → f ≡ At q → (q < s.reach) × (film (on side (up.look room s q).branch).tip ≡ film (bottom side e))) → Alike 0 k (up.in_chain room next s level side e f) (up.in_chain room' next' s' level side e' f)
+    in-chain-alike : {k : ℕ} {s : State T J} {s' : State T' J'} → Alike 0 k s s' → s.end ≡ Ok tt → (level : ℕ) → level ≤ levels → (side : Side) {e : LevelEdge P} {e' : LevelEdge P'} → AlikeEdge R film most e e' → (f : Option ℕ) → ((q : ℕ) → f ≡ Some q → (q < s.reach) × (film (on side (up.look room s q).branch).tip ≡ film (bottom side e))) → Alike 0 k (up.in_chain room next s level side e f) (up.in_chain room' next' s' level side e' f)
     unfolding up.in_chain
-    in-chain-alike A done level lv side h (At r) g =
+    in-chain-alike A done level lv side h (Some r) g =
         let w = g r refl in
         on-row-alike (weaken (omega arith) A A.since) level lv side h r w.0 (omega (arith, w.0, A.little done)) w.1
-    in-chain-alike {k} {s} {s'} A done level lv side {e} {e'} h Nothing g = rw (← chosen-alike A) (pick-alike (up.can_open room s) (up.can_open room' s') (can-open-alike A) opens (λ u. none))
+    in-chain-alike {k} {s} {s'} A done level lv side {e} {e'} h None g = rw (← chosen-alike A) (pick-alike (up.can_open room s) (up.can_open room' s') (can-open-alike A) opens (λ u. none))
       where
         free : ℕ
         free = up.chosen room s
@@ -410,10 +408,10 @@ module _ {P T J P' T' J' : Type 0} {room : Room P T J} {room' : Room P' T' J'} {
             let B = open-alike A level (bottom-alike side h) done l in
             on-row-alike B level lv side h free (opened-below s level (bottom side e)) (omega (arith, chosen-up-to room M.alone s, A.little done, open-records s free level (bottom side e))) (open-film A level (bottom side e) side l)
 
-        none : Alike 0 k (up.ended NoFreeRow s) (up.ended NoFreeRow s')
-        none = end-early NoFreeRow (λ x. let z : ◌≡◌ {A = ℕ} 0 1 = cc in omega arith) A
+        none : Alike 0 k (up.ended (Err NoFreeRow) s) (up.ended (Err NoFreeRow) s')
+        none = end-early (Err NoFreeRow) (λ x. let z : ◌≡◌ {A = ℕ} 0 1 = cc in omega arith) A
 
-    steps_alike : {k : ℕ} {s : State T J} {s' : State T' J'} → Alike 0 k s s' → s.end ≡ Done → (level : ℕ) → level ≤ levels → (side : Side) {e : LevelEdge P} {e' : LevelEdge P'} → AlikeEdge R film most e e' → Alike 0 k (up.steps_on room next s level side e) (up.steps_on room' next' s' level side e')
+    steps_alike : {k : ℕ} {s : State T J} {s' : State T' J'} → Alike 0 k s s' → s.end ≡ Ok tt → (level : ℕ) → level ≤ levels → (side : Side) {e : LevelEdge P} {e' : LevelEdge P'} → AlikeEdge R film most e e' → Alike 0 k (up.steps_on room next s level side e) (up.steps_on room' next' s' level side e')
     unfolding up.steps_on
     steps_alike {k} {s} A done level lv side {e} h =
         rw (← find-alike A level side (bottom-alike side h)) (in-chain-alike A done level lv side h (up.find room s level side (bottom side e)) (found-tip s level side (bottom side e)))
@@ -422,7 +420,7 @@ module _ {P T J P' T' J' : Type 0} {room : Room P T J} {room' : Room P' T' J'} {
   side-alike h = λ i. cond (M.below h.tail h.head i) Rising Falling
 
   -- every treatment is alike, by the levels left
-  treat-alike : (left level : ℕ) → level + left ≤ levels → (k : ℕ) (s : State T J) (s' : State T' J') (e : LevelEdge P) (e' : LevelEdge P') → Alike 0 k s s' → s.end ≡ Done → AlikeEdge R film most e e' → Alike 0 k (up.treat room left level s e) (up.treat room' left level s' e')
+  treat-alike : (left level : ℕ) → level + left ≤ levels → (k : ℕ) (s : State T J) (s' : State T' J') (e : LevelEdge P) (e' : LevelEdge P') → Alike 0 k s s' → s.end ≡ Ok tt → AlikeEdge R film most e e' → Alike 0 k (up.treat room left level s e) (up.treat room' left level s' e')
   unfolding up.treat
   treat-alike zero level l k s s' e e' A done h =
       pick-alike _ _ (M.same h.tail h.head) (λ q. close-alike A level (omega arith) h) (λ q. overrun A)

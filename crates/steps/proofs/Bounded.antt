@@ -1,19 +1,19 @@
 -- What every sweep that looks as far as rows have been opened keeps within, in any room of a sheet alone: the records stay within the journal's, the reach, which is the peak, within the records and the rows, the edge at which a
 -- sweep up ends within the list, and a sweep down counts no more polygons than records. Running alike keeps the first two bounds, and a room runs like
 -- itself, whatever the names in the list are.
+use Rattle.std.specs.Prelude.{Result, ⊤, Ok, Err}
 use mathlib.Core.Path.{◌≡◌, refl}
 use Prim.Native.Nat.{ℕ, zero, suc, ◌+◌, ◌≤◌, ◌<◌}
 use native.Mathlib.Omega.{arith}
 use lib.IntN.{ℤ, pos}
 use Rattle.laws.specs.Counting.{largest}
 use Rattle.laws.proofs.Largest.{largest-bound}
-use Rattle.steps.specs.declared.End.{End}
-use Rattle.steps.specs.declared.End.TheVariants.{Done, NoFreeRow, Overrun}
 use Rattle.steps.specs.Rows.{Chain, in_row, closing, Record, Row, LevelEdge, Room, Journal}
 use Rattle.steps.specs.SweepUp.{State, Sweep, sweep_up, after_done, treat, levels, start}
 use Rattle.steps.specs.SweepDown.{Tables, Reading, give, shifted, read_record, sweep_down}
 use Rattle.steps.proofs.Alike.{AlikeRow, AlikeEdge, Match, start-alike, sweep-alike}
 use Rattle.steps.proofs.Alone.{Alone}
+use Rattle.steps.specs.declared.Halt.{Halt}
 
 -- a room matches itself
 row-self : {P : Type 0} (row : Row P) → AlikeRow (λ p q. p ≡ q) row row
@@ -49,7 +49,7 @@ self room alone most names =
 pub record Within {P T J : Type 0} (room : Room P T J) (s : State T J) : Type 0 where
   pub kept : s.records ≤ room.records
   pub named : s.reach ≤ room.rows
-  pub little : s.end ≡ Done → s.reach ≤ s.records
+  pub little : s.end ≡ Ok tt → s.reach ≤ s.records
   pub by_name : s.peak ≡ s.reach
 
 -- no name in a list, or of a record, is above this
@@ -73,10 +73,9 @@ edge-within {P} {T} {J} room list s (suc n) = by (sweep_up room list s n).state.
     w : Sweep T J
     w = sweep_up room list s n
 
-    by : (d : End) → w.edge ≤ n → (after_done d w (record { state = treat room levels 0 w.state (list n); edge = n })).edge ≤ suc n
-    by Done h = omega arith
-    by NoFreeRow h = omega arith
-    by Overrun h = omega arith
+    by : (d : Result ⊤ Halt) → w.edge ≤ n → (after_done d w (record { state = treat room levels 0 w.state (list n); edge = n })).edge ≤ suc n
+    by (Ok _) h = omega arith
+    by (Err _) h = omega arith
 
 -- one record counts one polygon or none
 record-counts : {T A : Type 0} (tables : Tables T A) (d : Reading T A) (entry : Record) (c : Chain) → (read_record tables d entry c).polygons ≤ d.polygons + 1

@@ -1,5 +1,6 @@
 -- Sheets of document 01, of several films and with corners apart worked by the steps, with the peaks that M-103 gives them: one table, one test that is
 -- computed over all of it.
+use Rattle.std.specs.Prelude.{Result, ⊤, Ok, Err}
 use Prim.Native.Nat.{ℕ, suc, ◌/◌}
 use mathlib.Core.Path.{◌≡◌, refl}
 use mathlib.Core.Bool.{Bool, true, false, ◌&&◌}
@@ -15,8 +16,6 @@ use Rattle.sheet.specs.Turning as turning
 use Rattle.sheet.specs.Kinds as kinds
 use Rattle.sheet.specs.Corners as corners
 use Rattle.sheet.proofs.Drawn.{triangle, two_edges, square, two_peaks, touching, shared_side, one_top, one_top_around, touching_films, two_pixels, crossing}
-use Rattle.steps.specs.declared.End.{End}
-use Rattle.steps.specs.declared.End.TheVariants.{Done, NoFreeRow, Overrun}
 use Rattle.steps.specs.Rows as rows
 use Rattle.steps.specs.Rows.{Row, Record, in_row}
 use Rattle.steps.specs.SweepUp as up
@@ -27,12 +26,14 @@ use Rattle.steps.specs.Plain as plain
 use Rattle.steps.specs.Swept as swept
 use Rattle.steps.specs.Swept.{swept_to, read_down}
 use Rattle.sheet.specs.Amounts.{numbers_per_edge}
+use Rattle.steps.specs.declared.Halt.{Halt}
+use Rattle.steps.specs.declared.Halt.TheVariants.{NoFreeRow, Overrun}
 
 -- a sheet with the rows lent, and what 01 says of it: how it ends and at which edge, polygons, peak, records, the pairs in list order
 record Worked : Type 0 where
   list : List ℕ
   rows : ℕ
-  end : End
+  end : Result ⊤ Halt
   edge : ℕ
   polygons : ℕ
   peak : ℕ
@@ -42,16 +43,15 @@ record Worked : Type 0 where
 abbrev read_of : State (ℕ → Row ℕ) (ℕ → Record) → Reading (ℕ → Pair) (ℕ → Pair)
 read_of s = read_down s.journal s.records
 
-abbrev same_end : End → End → Bool
-same_end Done Done = true
-same_end NoFreeRow NoFreeRow = true
-same_end Overrun Overrun = true
-same_end Done NoFreeRow = false
-same_end Done Overrun = false
-same_end NoFreeRow Done = false
-same_end NoFreeRow Overrun = false
-same_end Overrun Done = false
-same_end Overrun NoFreeRow = false
+abbrev same_end : Result ⊤ Halt → Result ⊤ Halt → Bool
+same_end (Ok _) (Ok _) = true
+same_end (Err NoFreeRow) (Err NoFreeRow) = true
+same_end (Err Overrun) (Err Overrun) = true
+same_end (Ok _) (Err _) = false
+same_end (Err NoFreeRow) (Ok _) = false
+same_end (Err NoFreeRow) (Err Overrun) = false
+same_end (Err Overrun) (Ok _) = false
+same_end (Err Overrun) (Err NoFreeRow) = false
 
 -- the pairs of the edges from i on, of n
 abbrev same_pairs : (ℕ → Pair) → ℕ → ℕ → List ℕ → Bool
@@ -60,11 +60,10 @@ same_pairs answers n i (p ∷ []) = false
 same_pairs answers n i (p ∷ s ∷ rest) = eqb (answers i).polygon p && (eqb (nat_abs (answers i).sequence) s && same_pairs answers n (suc i) rest)
 
 -- a sheet that ends early is compared up to there
-abbrev right_numbers : End → State (ℕ → Row ℕ) (ℕ → Record) → Worked → Bool
-right_numbers Done s w =
+abbrev right_numbers : Result ⊤ Halt → State (ℕ → Row ℕ) (ℕ → Record) → Worked → Bool
+right_numbers (Ok _) s w =
     eqb (read_of s).polygons w.polygons && (eqb s.peak w.peak && (eqb s.records w.records && same_pairs (read_of s).answers (length w.list / numbers_per_edge) 0 w.pairs))
-right_numbers NoFreeRow s w = true
-right_numbers Overrun s w = true
+right_numbers (Err _) s w = true
 
 right : Worked → Bool
 right w = both (swept_to (drawing_of (map pos w.list)) w.rows (length w.list / numbers_per_edge))
@@ -78,7 +77,7 @@ all_right (w ∷ rest) = right w && all_right rest
 
 accepted : List ℕ → ℕ → ℕ → ℕ → ℕ → ℕ → List ℕ → Worked
 accepted list rows edge polygons peak records pairs =
-    record { list = list; rows = rows; end = Done; edge = edge; polygons = polygons; peak = peak; records = records; pairs = pairs }
+    record { list = list; rows = rows; end = Ok tt; edge = edge; polygons = polygons; peak = peak; records = records; pairs = pairs }
 
 sheets : List Worked
 sheets =
@@ -87,7 +86,7 @@ sheets =
     ∷ accepted two_edges 1 1 1 1 3 (1 ∷ 1 ∷ 1 ∷ 0 ∷ [])
     ∷ accepted square 1 3 1 1 5 (1 ∷ 2 ∷ 1 ∷ 1 ∷ 1 ∷ 3 ∷ 1 ∷ 0 ∷ [])
     ∷ accepted two_peaks 2 3 1 2 7 (1 ∷ 1 ∷ 1 ∷ 2 ∷ 1 ∷ 3 ∷ 1 ∷ 0 ∷ [])
-    ∷ record { list = two_peaks; rows = 1; end = NoFreeRow; edge = 1; polygons = 0; peak = 0; records = 0; pairs = [] }
+    ∷ record { list = two_peaks; rows = 1; end = Err NoFreeRow; edge = 1; polygons = 0; peak = 0; records = 0; pairs = [] }
     ∷ accepted touching 3 6 2 3 11 (2 ∷ 1 ∷ 2 ∷ 2 ∷ 1 ∷ 1 ∷ 2 ∷ 3 ∷ 2 ∷ 0 ∷ 1 ∷ 2 ∷ 1 ∷ 0 ∷ [])
     ∷ accepted shared_side 2 7 2 2 10 (2 ∷ 2 ∷ 1 ∷ 2 ∷ 2 ∷ 1 ∷ 2 ∷ 3 ∷ 2 ∷ 0 ∷ 1 ∷ 1 ∷ 1 ∷ 3 ∷ 1 ∷ 0 ∷ [])
     ∷ accepted one_top 1 3 2 1 6 (2 ∷ 1 ∷ 2 ∷ 0 ∷ 1 ∷ 1 ∷ 1 ∷ 0 ∷ [])

@@ -2,15 +2,13 @@
 -- row, a down edge on the falling side; everything is said once, over the side. Rows are looked for within the reach: all the rows there are, as 01 has it, or
 -- as far as rows have been opened, which comes to the same (proofs/Reaching.antt). Which rows are mine, which one is opened and how many I may have are the
 -- room's: a sheet alone has every row in use, the lowest free one and all rows.
-use Rattle.std.specs.Prelude.{ℕ, zero, suc, ◌+◌, max, Bool, true, false, cond, not, ◌&&◌, eqb, ltb, leb, ℤ, pos, neg_ℤ}
+use Rattle.std.specs.Prelude.{ℕ, zero, suc, ◌+◌, max, Bool, true, false, cond, not, ◌&&◌, eqb, ltb, leb, ℤ, pos, neg_ℤ, Option, Some, None, Result, ⊤, Ok, Err}
 use Rattle.laws.specs.Counting.{count, first}
 use Rattle.steps.specs.declared.Side.{Side}
 use Rattle.steps.specs.declared.Side.TheVariants.{Rising, Falling}
-use Rattle.steps.specs.declared.Found.{Found}
-use Rattle.steps.specs.declared.Found.TheVariants.{At, Nothing}
-use Rattle.steps.specs.declared.End.{End}
-use Rattle.steps.specs.declared.End.TheVariants.{Done, NoFreeRow, Overrun}
 use Rattle.steps.specs.Rows.{other_side, on, Row, in_row, closing, Record, LevelEdge, Places, Room}
+use Rattle.steps.specs.declared.Halt.{Halt}
+use Rattle.steps.specs.declared.Halt.TheVariants.{NoFreeRow, Overrun}
 
 -- the highest level that an edge may have, and the largest length that a row holds
 abbrev pub levels : ℕ
@@ -26,19 +24,18 @@ pub record State (T J : Type 0) : Type 0 where
   pub records : ℕ
   pub reach : ℕ
   pub peak : ℕ
-  pub end : End
+  pub end : Result ⊤ Halt
 
-abbrev pub ended : {T J : Type 0} → End → State T J → State T J
+abbrev pub ended : {T J : Type 0} → Result ⊤ Halt → State T J → State T J
 ended e s = record { rows = s.rows; journal = s.journal; records = s.records; reach = s.reach; peak = s.peak; end = e }
 
 abbrev pub with_rows : {T J : Type 0} → T → State T J → State T J
 with_rows t s = record { rows = t; journal = s.journal; records = s.records; reach = s.reach; peak = s.peak; end = s.end }
 
 -- go on only where the treatment before is done
-abbrev pub after_done : {A : Type 0} → End → A → A → A
-after_done Done s t = t
-after_done NoFreeRow s t = s
-after_done Overrun s t = s
+abbrev pub after_done : {A : Type 0} → Result ⊤ Halt → A → A → A
+after_done (Ok _) s t = t
+after_done (Err _) s t = s
 
 -- the sweep so far: the state, and the edge of the list that is treated, or was when it ended
 pub record Sweep (T J : Type 0) : Type 0 where
@@ -46,12 +43,12 @@ pub record Sweep (T J : Type 0) : Type 0 where
   pub edge : ℕ
 
 -- the first number below n that passes the test
-unfoldable pub found_below : (ℕ → Bool) → ℕ → Found
-found_below test n = cond (ltb (first test n) n) (At (first test n)) Nothing
+unfoldable pub found_below : (ℕ → Bool) → ℕ → Option ℕ
+found_below test n = cond (ltb (first test n) n) (Some (first test n)) None
 
 -- nothing where the test holds, otherwise what is found
-unfoldable pub pick_meeting : Bool → Found → Found
-pick_meeting true f = Nothing
+unfoldable pub pick_meeting : Bool → Option ℕ → Option ℕ
+pick_meeting true f = None
 pick_meeting false f = f
 
 -- an offset's sign: 0 or more on a rising branch, below 0 on a falling one
@@ -90,7 +87,7 @@ module _ {P T J : Type 0} (room : Room P T J) where
   look s r = room.table.look s.rows r
 
   -- step 1, and step 4 with the other side: the row found, one of mine
-  unfoldable pub find : State T J → ℕ → Side → P → Found
+  unfoldable pub find : State T J → ℕ → Side → P → Option ℕ
   find s level side p = found_below (λ r. room.table.mine s.rows r && has_tip room.places level side p (look s r)) s.reach
 
   -- the free row that would be opened
@@ -132,17 +129,17 @@ module _ {P T J : Type 0} (room : Room P T J) where
   attach s level side e r =
       cond (ltb s.records room.records && leb (longer side (look s r) e) most_length)
       (move (write s (chain_record level side (look s r) e r)) r side (top side e) (longer side (look s r) e))
-      (ended Overrun s)
+      (ended (Err Overrun) s)
 
   -- a closing edge only writes a record, its offset the falling length
   unfoldable pub close : State T J → ℕ → LevelEdge P → State T J
   close s level e =
       cond (ltb s.records room.records)
       (write s (record { level = level; name = e.name; chain = closing; offset = pos e.length.falling }))
-      (ended Overrun s)
+      (ended (Err Overrun) s)
 
   -- step 4: the row whose other branch has its tip at the edge's top; where that place is apart there is none
-  unfoldable pub meeting : State T J → ℕ → Side → LevelEdge P → Found
+  unfoldable pub meeting : State T J → ℕ → Side → LevelEdge P → Option ℕ
   meeting s level side e = pick_meeting e.apart (find s level (other_side side) (top side e))
 
   unfoldable pub finish : State T J → ℕ → Side → State T J
@@ -161,9 +158,9 @@ module _ {P T J : Type 0} (room : Room P T J) where
       cond (eqb q r) (pass_up next s q)
       (after_done (pass_up next s q).end (pass_up next s q) (pass_up next (pass_up next s q) r))
 
-  unfoldable pub meet : (State T J → LevelEdge P → State T J) → State T J → Side → ℕ → Found → State T J
-  meet next s side r Nothing = s
-  meet next s side r (At q) = pass_both next (finish (finish s q (other_side side)) r side) q r
+  unfoldable pub meet : (State T J → LevelEdge P → State T J) → State T J → Side → ℕ → Option ℕ → State T J
+  meet next s side r None = s
+  meet next s side r (Some q) = pass_both next (finish (finish s q (other_side side)) r side) q r
 
   -- steps 2 to 4 on a row
   unfoldable pub on_row : (State T J → LevelEdge P → State T J) → State T J → ℕ → Side → LevelEdge P → ℕ → State T J
@@ -172,19 +169,19 @@ module _ {P T J : Type 0} (room : Room P T J) where
       (meet next (attach s level side e r) side r (meeting (attach s level side e r) level side e))
 
   -- step 1 and what follows: the row found, or a free row opened, or no row
-  unfoldable pub in_chain : (State T J → LevelEdge P → State T J) → State T J → ℕ → Side → LevelEdge P → Found → State T J
-  in_chain next s level side e (At r) = on_row next s level side e r
-  in_chain next s level side e Nothing =
+  unfoldable pub in_chain : (State T J → LevelEdge P → State T J) → State T J → ℕ → Side → LevelEdge P → Option ℕ → State T J
+  in_chain next s level side e (Some r) = on_row next s level side e r
+  in_chain next s level side e None =
       cond (can_open s)
       (on_row next (open_row s (chosen s) level (bottom side e)) level side e (chosen s))
-      (ended NoFreeRow s)
+      (ended (Err NoFreeRow) s)
 
   unfoldable pub steps_on : (State T J → LevelEdge P → State T J) → State T J → ℕ → Side → LevelEdge P → State T J
   steps_on next s level side e = in_chain next s level side e (find s level side (bottom side e))
 
   -- an edge of a level with so many levels left above it: equal ends close an outline, otherwise the four steps
   unfoldable pub treat : ℕ → ℕ → State T J → LevelEdge P → State T J
-  treat zero level s e = cond (room.places.same e.tail e.head) (close s level e) (ended Overrun s)
+  treat zero level s e = cond (room.places.same e.tail e.head) (close s level e) (ended (Err Overrun) s)
   treat (suc left) level s e =
       cond (room.places.same e.tail e.head) (close s level e)
       (steps_on (treat left (suc level)) s level (side_of room.places e) e)
@@ -202,4 +199,4 @@ list_edge places apart i tail head =
 
 -- before the first edge nothing is written and no row was ever open; rows are looked for as far as said
 abbrev pub start : {T J : Type 0} → ℕ → T → J → State T J
-start reach t j = record { rows = t; journal = j; records = 0; reach = reach; peak = 0; end = Done }
+start reach t j = record { rows = t; journal = j; records = 0; reach = reach; peak = 0; end = Ok tt }

@@ -1,14 +1,13 @@
 -- The two sweeps of a drawing as document 01 runs them, on plain tables: all rows are free at the start, all of them are looked at and may be in use, and the
 -- journal has room for two records an edge, which is what refusal 4 asks for.
-use Rattle.std.specs.Prelude.{ℕ, ◌*◌, ◌/◌, ◌<◌, ◌≡◌, eqb, ltb, List, ℤ, pos, length}
+use Rattle.std.specs.Prelude.{ℕ, ◌*◌, ◌/◌, ◌<◌, ◌≡◌, eqb, ltb, List, ℤ, pos, length, None, Ok, Err}
 use Rattle.sheet.specs.Edges.{Drawing}
 use Rattle.sheet.specs.Corners.{apart}
-use Rattle.steps.specs.declared.Found.TheVariants.{Nothing}
-use Rattle.steps.specs.declared.End.TheVariants.{Done, NoFreeRow}
 use Rattle.steps.specs.Rows.{Row, closing, Record, LevelEdge, Places, Room}
 use Rattle.steps.specs.SweepUp.{Sweep, side_of, bottom, find, in_use, levels, treat, sweep_up, list_edge, start}
 use Rattle.steps.specs.SweepDown.{Pair, Reading, sweep_down}
 use Rattle.steps.specs.Plain.{new_row, free_row, plain_table, plain_journal, plain_tables}
+use Rattle.steps.specs.declared.Halt.TheVariants.{NoFreeRow}
 
 abbrev pub places_of : Drawing → Places ℕ
 places_of sh = record { same = eqb; below = λ p q. ltb (sh.height p) (sh.height q) }
@@ -52,10 +51,10 @@ read_down j n = sweep_down plain_tables plain_journal j n (record { table = no_p
 -- step 1 finds no free row while edge e of the list is treated: the edges before it are treated, and its own treatment ends so
 pub record LacksRow (sh : Drawing) (rows e : ℕ) : Type 0 where
   pub is_edge : e < sh.edges
-  pub before : (swept_to sh rows e).state.end ≡ Done
-  pub lacking : (treat (plain_room sh rows (2 * sh.edges)) levels 0 (swept_to sh rows e).state (drawn_edge sh e)).end ≡ NoFreeRow
+  pub before : (swept_to sh rows e).state.end ≡ Ok tt
+  pub lacking : (treat (plain_room sh rows (2 * sh.edges)) levels 0 (swept_to sh rows e).state (drawn_edge sh e)).end ≡ Err NoFreeRow
 
 -- .. and then it is the edge itself that finds no row, while all rows are in use: an edge passed up is never without one, since its own row was freed first (M-103)
 pub record LacksItself (sh : Drawing) (rows e : ℕ) : Type 0 where
-  pub unfound : find (plain_room sh rows (2 * sh.edges)) (swept_to sh rows e).state 0 (side_of (places_of sh) (drawn_edge sh e)) (bottom (side_of (places_of sh) (drawn_edge sh e)) (drawn_edge sh e)) ≡ Nothing
+  pub unfound : find (plain_room sh rows (2 * sh.edges)) (swept_to sh rows e).state 0 (side_of (places_of sh) (drawn_edge sh e)) (bottom (side_of (places_of sh) (drawn_edge sh e)) (drawn_edge sh e)) ≡ None
   pub all_in_use : in_use (plain_room sh rows (2 * sh.edges)) (swept_to sh rows e).state ≡ rows

@@ -1,10 +1,10 @@
-// The words that the steps and the code share: a branch's side, what a search answers, how a treatment ends.
+// The words that the steps and the code share: a branch's side, why a treatment ends early.
 #![tactic(auto)]
 
 ghost use Rattle.std.specs.Prelude.{◌≡◌};
 ghost use Rattle.steps.specs.Rows.{other_side};
 
-#[derive(Clone, Copy)]
+#[derive(Clone, Copy, Debug, PartialEq, Eq)]
 pub enum Side {
     Rising,
     Falling,
@@ -21,17 +21,9 @@ impl Side {
     }
 }
 
-// What a search for a row answers.
-#[derive(Clone, Copy)]
-pub enum Found {
-    At(usize),
-    Nothing,
-}
-
-// How treating an edge ended: it is done; step 1 found no free row; or the levels, the journal or the lengths ran out, which no checked list makes happen.
-#[derive(Clone, Copy)]
-pub enum End {
-    Done,
+// Why treating an edge ended early: step 1 found no free row; or the levels, the journal or the lengths ran out, which no checked list makes happen.
+#[derive(Clone, Copy, Debug, PartialEq, Eq)]
+pub enum Halt {
     NoFreeRow,
     Overrun,
 }

@@ -1,4 +1,8 @@
 -- One law for each way out of closing, opening and attaching: what the calls leave makes up the step.
+use Rattle.std.specs.Prelude.{Err, IsTrue, ◌↔◌}
+use mathlib.Core.Bool.{false}
+use mathlib.Core.Logic.{⊎_elim}
+use Rattle.laws.proofs.Deciding.{lt-or-le, not-both}
 use mathlib.Core.Path.{◌≡◌, refl, ◌∙◌}
 use mathlib.Core.List.{List}
 use Prim.Native.Nat.{ℕ, zero, suc, ◌+◌, ◌-◌, ◌≤◌, ◌<◌, max}
@@ -12,7 +16,6 @@ use borrow.Author.Tests.{lt-ltb, le-ltb, le-leb, lt-leb}
 use Rattle.rows.specs.declared.Place.{Place}
 use Rattle.steps.specs.declared.Side.{Side}
 use Rattle.steps.specs.declared.Side.TheVariants.{Rising, Falling}
-use Rattle.steps.specs.declared.End.TheVariants.{Overrun}
 use Rattle.steps.specs.Rows.{other_side, on, in_row, closing, lowest_free}
 use Rattle.steps.specs.SweepUp as up
 use Rattle.laws.proofs.Lowest.{count-by-lowest}
@@ -26,6 +29,11 @@ use Rattle.journal.specs.Layout.{records_in, written_in}
 use Rattle.sweep.specs.declared.Progress.{Progress}
 use Rattle.sweep.specs.declared.NamedEdge.{NamedEdge}
 use Rattle.sweep.specs.Slices.{room, lent_room, state, edge_of}
+use Rattle.steps.specs.declared.Halt.TheVariants.{Overrun}
+
+-- a journal that is not full has a record left
+pub not-full : {m n : ℕ} → (IsTrue false ↔ m ≤ n) → n < m
+not-full {m} {n} h = ⊎_elim (λ l. l) (λ g. absurd (not-both (h.1 g) refl)) (lt-or-le n m)
 
 -- an offset with its sign
 module _ (n : ℕ) (h : n < 2147483648) where
@@ -64,7 +72,7 @@ abbrev recorded : Progress → Progress
 recorded s = record { records = s.records + 1; peak = s.peak; end = s.end }
 
 module _ (a b : List ℤ) (s : Progress) (level : ℕ) (e : NamedEdge) where
-  pub close-full : records_in b ≤ s.records → up.ended Overrun (state a b s) ≡ up.close (lent_room a b) (state a b s) level (edge_of e)
+  pub close-full : records_in b ≤ s.records → up.ended (Err Overrun) (state a b s) ≡ up.close (lent_room a b) (state a b s) level (edge_of e)
   unfolding up.close room
   close-full h = rw (le-ltb s.records (records_in b) h)
 
@@ -75,12 +83,12 @@ module _ (a b : List ℤ) (s : Progress) (level : ℕ) (e : NamedEdge) where
   close-written h eb ep = rw (lt-ltb s.records (records_in b) h, eb, ep)
 
   module _ (side : Side) (r : ℕ) where
-    pub attach-full : records_in b ≤ s.records → up.ended Overrun (state a b s) ≡ up.attach (lent_room a b) (state a b s) level side (edge_of e) r
+    pub attach-full : records_in b ≤ s.records → up.ended (Err Overrun) (state a b s) ≡ up.attach (lent_room a b) (state a b s) level side (edge_of e) r
     unfolding up.attach room
     attach-full h = rw (le-ltb s.records (records_in b) h)
 
     module _ (n : ℕ) (is : n ≡ (on side (look_row a r).branch).length) where
-      pub attach-long : most_length < n + e.falling + e.rising → up.ended Overrun (state a b s) ≡ up.attach (lent_room a b) (state a b s) level side (edge_of e) r
+      pub attach-long : most_length < n + e.falling + e.rising → up.ended (Err Overrun) (state a b s) ≡ up.attach (lent_room a b) (state a b s) level side (edge_of e) r
       unfolding up.attach room rows.row_slice
       attach-long h = rw (← is, lt-leb (n + e.falling + e.rising) most_length h, and-false)
 

@@ -12,6 +12,8 @@ use Rattle.steps.specs.SweepDown as steps
 use Rattle.steps.specs.SweepDown.{natural_part}
 use Rattle.journal.specs.Layout.{fitting, record_at, record_slice}
 use Rattle.sweep.specs.Lookup.{Answers, narrowed, numbers_in, given_in, answered_in, tables, reading}
+use Rattle.sweep.specs.declared.down.Reader.{Reader}
+use Rattle.sweep.specs.Reading.{SameLent}
 use Rattle.sweep.proofs.Sums.{narrowed-held}
 use Rattle.steps.specs.Swept.{numbers_per_row}
 
@@ -56,3 +58,15 @@ down-more j (suc k) l d e h =
 pub down-none : (j : List ℤ) (d : steps.Reading (List ℤ) Answers) → steps.sweep_down tables record_slice j 0 d ≡ d
 unfolding steps.sweep_down
 down-none j d = refl
+
+-- what is lent stays the same from one step to the next
+pub lent-on : {d d₁ d₂ : Reader} → SameLent d d₁ → SameLent d₁ d₂ → SameLent d d₂
+lent-on s t = record {
+  journal = t.journal ∙ s.journal;
+  rows = t.rows ∙ s.rows;
+  polygons = t.polygons ∙ s.polygons;
+  sequences = t.sequences ∙ s.sequences;
+  rows-kept = t.rows-kept ∙ s.rows-kept;
+  polygons-kept = t.polygons-kept ∙ s.polygons-kept;
+  sequences-kept = t.sequences-kept ∙ s.sequences-kept;
+}

@@ -1,7 +1,8 @@
--- The ways out of a treatment, whose parts are done by functions of their own: what they leave together is what the steps leave, and the index and the counts are good again. One law
--- for each way, for an edge of any level.
+-- The ways out of the four steps and of a treatment, whose parts are done by functions of their own: what they leave together is what the steps leave, and the index and the counts are
+-- good again. One law for each way, for an edge of any level.
+use Rattle.std.specs.Prelude.{Option, Some, None, Result, ⊤, Ok, Err}
 use mathlib.Core.Path.{◌≡◌, refl, sym, ap, ◌∙◌}
-use mathlib.Core.Bool.{Bool, true, false}
+use mathlib.Core.Bool.{true, false}
 use mathlib.Core.Logic.{inl, inr}
 use mathlib.Core.List.{List}
 use Prim.Native.Nat.{ℕ, ◌+◌, ◌-◌, ◌≤◌, ◌<◌}
@@ -11,198 +12,244 @@ use lib.ListN.{length, get_or}
 use Rattle.sheet.specs.Points.{is_same}
 use Rattle.steps.specs.declared.Side.{Side}
 use Rattle.steps.specs.declared.Side.TheVariants.{Rising, Falling}
-use Rattle.steps.specs.declared.Found.{Found}
-use Rattle.steps.specs.declared.Found.TheVariants.{At, Nothing}
-use Rattle.steps.specs.declared.End.{End}
-use Rattle.steps.specs.declared.End.TheVariants.{Done, NoFreeRow, Overrun}
-use Rattle.steps.specs.Rows.{other_side, LevelEdge, Row}
+use Rattle.steps.specs.declared.Halt.{Halt}
+use Rattle.steps.specs.declared.Halt.TheVariants.{Overrun}
+use Rattle.steps.specs.Rows.{other_side, LevelEdge}
 use Rattle.steps.specs.SweepUp as up
 use Rattle.steps.specs.SweepUp.{State}
-use Rattle.steps.specs.Swept.{rows_in}
 use Rattle.rows.specs.declared.Place.{Place}
 use Rattle.rows.specs.Layout.{film_places, HasRow, film_in, look_row, has_tip_in, finished_in, freed_in}
 use Rattle.finding.specs.Free.{peak_in, given_back_in}
-use Rattle.finding.specs.Index.{slot_of, tip_at, tip_of, owner_in, marked_in, told, none, only, Long, Indexed}
+use Rattle.finding.specs.Index.{tip_at, tip_of, marked_in, none, only, Indexed}
 use Rattle.rows.proofs.Searching.{tip-has-row}
 use Rattle.rows.proofs.Writing.{finished-only, freed-only}
 use Rattle.finding.proofs.InUse.{given-back-keeps, in-use-finished, in-use-freed}
-use Rattle.finding.proofs.Indexing.{but-more, found-by-number, told_at, indexed-marked, indexed-finished, indexed-freed}
+use Rattle.finding.proofs.Indexing.{but-more, indexed-marked, indexed-finished, indexed-freed}
 use Rattle.sweep.specs.declared.NamedEdge.{NamedEdge}
-use Rattle.sweep.specs.Slices.{lent_room, state, edge_of, number_below, progress, is_done}
-use Rattle.sweep.specs.Treated.{Numbered, Recorded, Slices, slices, state_of, Good, Chained, Attached, Met, Treated}
-use Rattle.sweep.proofs.Rooms.{same-room, not_done, is-done-is}
-use Rattle.sweep.proofs.Beside.{recorded-peak, recorded-good}
+use Rattle.sweep.specs.declared.treating.Writer.{Writer}
+use Rattle.sweep.specs.Slices.{edge_of, number_below, progress}
+use Rattle.sweep.specs.Beside.{HasFound, Meets}
+use Rattle.sweep.specs.Treated.{Slices, room_of, state_of, Good, Numbered, Next, Kept, SameLent, OnlyWritten, Met, Chained, Attached, Stepped, Treated}
+use Rattle.sweep.proofs.Rooms.{same-room, not_done}
 use Rattle.sweep.proofs.Ways.{treat-closed, treat-none-left, raised, treat-steps, row-stopped, row-unmet, row-met}
 
 abbrev Want : Type 0
 Want = State (List ℤ) (List ℤ)
 
 -- a treatment that goes on from slices that are good again
-pub treated-from : {right right₁ : (Place → ℕ) → Type 0} {before : Slices} (between : Slices) {after : Slices} {t : End} {want want₁ : Want} → Treated right₁ between after t want₁ →
+pub treated-from : {right right₁ : (Place → ℕ) → Type 0} {before between after : Slices} {t : Result ⊤ Halt} {want want₁ : Want} → Treated right₁ between after t want₁ →
     peak_in before.counts ≤ peak_in between.counts → ((number : Place → ℕ) → Good number before none → right number → Good number between none × right₁ number) → want₁ ≡ want →
     Treated right before after t want
-treated-from between T grows good e = record {
+treated-from T grows good e = record {
   grows = omega (arith, grows, T.grows);
   told = λ number G R. let g = good number G R in let h = T.told number g.0 g.1 in (h.0 ∙ e, h.1);
 }
+
+-- one room serves for slices that keep their lengths
+pub one-room : {l l₁ : Slices} → Kept l l₁ → room_of l₁ ≡ room_of l
+one-room {l} {l₁} K = same-room l.rows l.journal l₁.rows l₁.journal K.rows K.journal
+
+pub kept-on : {l l₁ l₂ : Slices} → Kept l l₁ → Kept l₁ l₂ → Kept l l₂
+kept-on K L = record { rows = L.rows ∙ K.rows; journal = L.journal ∙ K.journal; index = L.index ∙ K.index }
+
+pub lent-on : {w w₁ w₂ : Writer} → SameLent w w₁ → SameLent w₁ w₂ → SameLent w w₂
+lent-on S T = record { rows = T.rows ∙ S.rows; journal = T.journal ∙ S.journal; kept = kept-on S.kept T.kept }
+
+-- an edge that has the numbers of its places goes on having them
+numbered-on : (number : Place → ℕ) {l l₁ : Slices} {e : NamedEdge} → Kept l l₁ → peak_in l.counts ≤ peak_in l₁.counts → Numbered number l e → Numbered number l₁ e
+numbered-on number K grows N long = N (omega (arith, long, grows, K.index))
 
 other-twice : (side : Side) → side ≡ other_side (other_side side)
 other-twice Rising = refl
 other-twice Falling = refl
 
 -- an edge whose ends are one closes an outline
-pub closed : (a b : List ℤ) (index c : List ℕ) (left level : ℕ) (e : NamedEdge) → is_same e.tail e.head ≡ true → {b₁ : List ℤ} {c₁ : List ℕ} {t : End} →
-    ((x : List ℤ) → state x b₁ (progress c₁ t) ≡ up.close (lent_room x b) (state x b (progress c Done)) level (edge_of e)) → Recorded c c₁ →
-    Treated (λ number. Numbered number index c e) (slices a b index c) (slices a b₁ index c₁) t (up.treat (lent_room a b) left level (state a b (progress c Done)) (edge_of e))
-closed a b index c left level e same {b₁} {c₁} {t} closes R = record {
-  grows = omega (arith, recorded-peak c c₁ R);
-  told = λ number G N. (treat-closed a b left level (progress c Done) e (sym same) refl (closes a), λ d. recorded-good R G);
+pub closed : (l : Slices) (left level : ℕ) (e : NamedEdge) → is_same e.tail e.head ≡ true → {l₁ : Slices} {t : Result ⊤ Halt} →
+    OnlyWritten l l₁ → state_of l₁ t ≡ up.close (room_of l) (state_of l (Ok tt)) level (edge_of e) →
+    Treated (λ number. Numbered number l e) l l₁ t (up.treat (room_of l) left level (state_of l (Ok tt)) (edge_of e))
+closed l left level e same {l₁} {t} W closes = record {
+  grows = omega (arith, ap (λ (z : List ℕ). peak_in z) W.counts);
+  told = λ number G N. (
+    treat-closed l.rows l.journal left level (progress l.records l.counts (Ok tt)) e (sym same) refl {a₁ = l₁.rows} {b₁ = l₁.journal} {p = progress l₁.records l₁.counts t} closes,
+    λ d. rw (W.rows, W.index, W.counts) G,
+  );
 }
 
 -- any other edge needs a level above it
-pub none_left : (a b : List ℤ) (index c : List ℕ) (left level : ℕ) (e : NamedEdge) → is_same e.tail e.head ≡ false → left ≡ 0 →
-    Treated (λ number. Numbered number index c e) (slices a b index c) (slices a b index c) Overrun (up.treat (lent_room a b) left level (state a b (progress c Done)) (edge_of e))
-none_left a b index c left level e differ zero = record {
+pub none_left : (l : Slices) (left level : ℕ) (e : NamedEdge) → is_same e.tail e.head ≡ false → left ≡ 0 →
+    Treated (λ number. Numbered number l e) l l (Err Overrun) (up.treat (room_of l) left level (state_of l (Ok tt)) (edge_of e))
+none_left l left level e differ zero = record {
   grows = omega arith;
-  told = λ number G N. (treat-none-left a b left level (progress c Done) e (sym differ) refl zero, λ d. absurd (not_done {t = Overrun} refl d));
+  told = λ number G N. (treat-none-left l.rows l.journal left level (progress l.records l.counts (Ok tt)) e (sym differ) refl zero, λ d. absurd (not_done {t = Err Overrun} refl d));
 }
 
 -- a row freed, and treated as an edge of the next level
-module _ (a b : List ℤ) (index c : List ℕ) (r : ℕ) (has : HasRow a r) (e : NamedEdge) (edge-is : edge_of e ≡ up.as_edge r (look_row a r)) (tails : e.tails ≡ get_or index (tip_at r Falling) 0)
-    (heads : e.heads ≡ get_or index (tip_at r Rising) 0) {a₁ : List ℤ} {c₁ : List ℕ} (freed : a₁ ≡ freed_in a r) (given_back : c₁ ≡ given_back_in c r) where
-  peak-same : peak_in c₁ ≡ peak_in c
-  peak-same = rw given_back (given-back-keeps c r 1 (omega arith))
+module _ (l : Slices) (r : ℕ) (has : HasRow l.rows r) (e : NamedEdge) (edge-is : edge_of e ≡ up.as_edge r (look_row l.rows r)) (tails : e.tails ≡ get_or l.index (tip_at r Falling) 0)
+    (heads : e.heads ≡ get_or l.index (tip_at r Rising) 0) {a₁ : List ℤ} {c₁ : List ℕ} (freed : a₁ ≡ freed_in l.rows r) (given_back : c₁ ≡ given_back_in l.counts r) where
+  abbrev pub raising : Slices
+  raising = record { rows = a₁; journal = l.journal; index = l.index; counts = c₁; records = l.records }
 
-  same-progress : progress c₁ Done ≡ progress c Done
-  same-progress = rw given_back (λ i. record { records = given-back-keeps c r 0 (omega arith) i; peak = given-back-keeps c r 1 (omega arith) i; end = Done })
+  peak-same : peak_in c₁ ≡ peak_in l.counts
+  peak-same = rw given_back (given-back-keeps l.counts r 1 (omega arith))
 
-  numbered-edge : (number : Place → ℕ) → Indexed number index a c none → r < peak_in c → Numbered number index c₁ e
+  same-progress : progress l.records c₁ (Ok tt) ≡ progress l.records l.counts (Ok tt)
+  same-progress = λ i. record { records = l.records; peak = peak-same i; end = Ok tt }
+
+  numbered-edge : (number : Place → ℕ) → Good number l none → r < peak_in l.counts → Numbered number raising e
   unfolding up.as_edge
   numbered-edge number G below long Rising =
       tails ∙ G.numbers (omega (arith, long, peak-same)) r below Falling ∙ ap (λ (z : LevelEdge Place). number z.tail) (sym edge-is)
   numbered-edge number G below long Falling =
       heads ∙ G.numbers (omega (arith, long, peak-same)) r below Rising ∙ ap (λ (z : LevelEdge Place). number z.head) (sym edge-is)
 
-  pub from-raised : (left level : ℕ) {after : Slices} {t : End} →
-      Treated (λ number. Numbered number index c₁ e) (slices a₁ b index c₁) after t (up.treat (lent_room a₁ b) left level (state a₁ b (progress c₁ Done)) (edge_of e)) →
-      Treated (λ number. r < peak_in c) (slices a b index c) after t (up.treat (lent_room a b) left level (up.free (lent_room a b) (state a b (progress c Done)) r) (up.as_edge r (look_row a r)))
-  from-raised left level T = treated-from (slices a₁ b index c₁) T (omega (arith, peak-same))
+  pub from-raised : (left level : ℕ) {after : Slices} {t : Result ⊤ Halt} →
+      Treated (λ number. Numbered number raising e) raising after t (up.treat (room_of raising) left level (state_of raising (Ok tt)) (edge_of e)) →
+      Treated (λ number. r < peak_in l.counts) l after t (up.treat (room_of l) left level (up.free (room_of l) (state_of l (Ok tt)) r) (up.as_edge r (look_row l.rows r)))
+  from-raised left level T = treated-from T (omega (arith, peak-same))
       (λ number G below. (rw freed (indexed-freed r has G peak-same (rw given_back (in-use-freed G.in_use r))), numbered-edge number G below))
-      (raised a b left level (progress c Done) r e edge-is freed (rw freed (freed-only a r).kept) same-progress)
+      (raised l.rows l.journal left level (progress l.records l.counts (Ok tt)) r e edge-is freed (rw freed (freed-only l.rows r).kept) same-progress)
 
--- which has no place that is apart
-pub raised-not-apart : (r : ℕ) (row : Row Place) (e : NamedEdge) → edge_of e ≡ up.as_edge r row → e.apart ≡ false
-unfolding up.as_edge
-raised-not-apart r row e edge-is = ap (λ (z : LevelEdge Place). z.apart) edge-is
+-- a row that step 4 finds is there
+pub met-there : (l : Slices) (level : ℕ) (side : Side) (e : NamedEdge) (f : Option ℕ) → Met l level side e f → HasFound l.rows f
+met-there l level side e None M = tt
+met-there l level side e (Some q) M = tip-has-row l.rows level (other_side side) (up.top side (edge_of e)) q (M.there q refl).0
 
--- step 4's search where the place is not apart
-pub met-found : (a : List ℤ) (index c : List ℕ) (level : ℕ) (side : Side) (p : Place) {k i : ℕ} {apart : Bool} {f : Found} → apart ≡ false → i ≡ slot_of level side k →
-    f ≡ told (owner_in index (peak_in c) i) a (peak_in c) level side p → Met a index c level side p k apart f
-unfolding up.pick_meeting
-met-found a index c level side p {k} {i} not-apart slot_is find-is = record {
-  there = λ q e. told_at a level side p (peak_in c) q (owner_in index (peak_in c) i) (sym find-is ∙ e);
-  found = λ number I place. rw not-apart (rw slot_is at find-is ∙ found-by-number level side p I k place);
+-- no row for an edge
+pub step-no-row : (l : Slices) (level : ℕ) (e : NamedEdge) {side : Side} {l₁ : Slices} {t : Halt} → side ≡ up.side_of film_places (edge_of e) → Chained l level side e (Err t) l₁ → Stepped l level e (Err t) l₁
+step-no-row l level e side-is C = record {
+  grows = C.grows;
+  both = tt;
+  leaves = λ number G N next. rw side-is at (sym (C.leaves number G N next));
 }
 
--- an edge whose ends differ, with a level left, whose chain's row is r
-module _ (a b : List ℤ) (index c : List ℕ) (left level : ℕ) (e : NamedEdge) (side : Side) (r : ℕ) (differ : is_same e.tail e.head ≡ false) (some_left : 0 < left)
-    (side-is : side ≡ up.side_of film_places (edge_of e)) {a₁ : List ℤ} {index₁ c₁ : List ℕ} (C : Chained a index c level side e r a₁ index₁ c₁) where
-  abbrev wanted : Want
-  wanted = up.treat (lent_room a b) left level (state a b (progress c Done)) (edge_of e)
+-- an edge whose chain's row is r, attached or not
+module _ (l : Slices) (level : ℕ) (e : NamedEdge) (side : Side) (side-is : side ≡ up.side_of film_places (edge_of e)) {r : ℕ} {l₁ : Slices} (C : Chained l level side e (Ok r) l₁) (K : Kept l l₁)
+    {t : Result ⊤ Halt} {l₂ : Slices} (A : Attached l₁ level side e r t l₂) where
+  goes_on : (number : Place → ℕ) → Good number l none → Numbered number l e → (next : Next) →
+      up.on_row (room_of l₁) next (state_of l₁ (Ok tt)) level side (edge_of e) r ≡ up.steps_on (room_of l) next (state_of l (Ok tt)) level (up.side_of film_places (edge_of e)) (edge_of e)
+  goes_on number G N next = rw (one-room K) (sym (C.leaves number G N next).1 ∙ ap (λ (x : Side). up.steps_on (room_of l) next (state_of l (Ok tt)) level x (edge_of e)) side-is)
 
-  abbrev Right : (Place → ℕ) → Type 0
-  Right number = Numbered number index c e
+  film : film_in l₁.rows r ≡ e.film
+  film = C.row.2
 
-  steps : wanted ≡ up.steps_on (lent_room a b) (up.treat (lent_room a b) (left - 1) (level + 1)) (state a b (progress c Done)) level side (edge_of e)
-  steps = treat-steps a b left level (progress c Done) e side differ some_left side-is
+  grows₂ : peak_in l.counts ≤ peak_in l₂.counts
+  grows₂ = omega (arith, C.grows, A.peak)
 
-  -- no row is free
-  pub no_row : rows_in a ≤ r → Treated Right (slices a b index c) (slices a₁ b index₁ c₁) NoFreeRow wanted
-  no_row full = record {
-    grows = C.grows;
-    told = λ number G N. (sym (steps ∙ C.ends number G N b (up.treat (lent_room a b) (left - 1) (level + 1)) full), λ d. absurd (not_done {t = NoFreeRow} refl d));
+  -- all but the tip that was moved is known
+  known : (number : Place → ℕ) → Good number l none → Numbered number l e → Next → Good number l₂ (only r side)
+  known number G N next = A.good number (C.leaves number G N next).0 (numbered-on number K C.grows N) film
+
+  pub step-stopped : {u : Halt} → t ≡ Err u → Stepped l level e (Err u) l₂
+  step-stopped {u} stop = record {
+    grows = grows₂;
+    both = tt;
+    leaves = λ number G N next.
+        row-stopped l₁.rows l₁.journal next (progress l₁.records l₁.counts (Ok tt)) level side e r {a₁ = l₂.rows} {b₁ = l₂.journal} {p = progress l₂.records l₂.counts (Err u)} (rw stop at A.leaves) refl
+        ∙ goes_on number G N next;
   }
 
-  -- the row is there, and the edge is attached
-  module _ (has : r < rows_in a) (la₁ : length a₁ ≡ length a) (li₁ : length index₁ ≡ length index) {t : End} {a₂ b₂ : List ℤ} {index₂ c₂ : List ℕ}
-      (attached : state a₂ b₂ (progress c₂ t) ≡ up.attach (lent_room a₁ b) (state a₁ b (progress c₁ Done)) level side (edge_of e) r) (A : Attached a₁ index₁ c₁ side e r t a₂ index₂ c₂)
-      (la₂ : length a₂ ≡ length a₁) (lb₂ : length b₂ ≡ length b) (li₂ : length index₂ ≡ length index₁) where
-    goes_on : (number : Place → ℕ) → Indexed number index a c none → Numbered number index c e →
-        wanted ≡ up.on_row (lent_room a₁ b) (up.treat (lent_room a₁ b) (left - 1) (level + 1)) (state a₁ b (progress c₁ Done)) level side (edge_of e) r
-    goes_on number G N = rw (same-room a b a₁ b la₁ refl) (steps ∙ C.goes_on number G N b (up.treat (lent_room a b) (left - 1) (level + 1)) has)
+  -- step 4
+  module _ (done : t ≡ Ok tt) (K₂ : Kept l₁ l₂) where
+    attached : state_of l₂ (Ok tt) ≡ up.attach (room_of l₁) (state_of l₁ (Ok tt)) level side (edge_of e) r
+    attached = rw done at A.leaves
 
-    film : film_in a₁ r ≡ e.film
-    film = (C.row has).1
+    numbered : (number : Place → ℕ) → Numbered number l e → Numbered number l₂ e
+    numbered number N = numbered-on number (kept-on K K₂) grows₂ N
 
-    long-before : Long index₂ c₂ → Long index c
-    long-before long = omega (arith, long, C.grows, A.peak, li₁, li₂)
+    tip : tip_of l₂.rows r side ≡ up.top side (edge_of e)
+    tip = A.tip done film
 
-    long-between : Long index₁ c₁ → Long index c
-    long-between long = omega (arith, long, C.grows, li₁)
-
-    -- all but the tip that was moved is known
-    known : (number : Place → ℕ) → Indexed number index a c none → Numbered number index c e → Indexed number index₂ a₂ c₂ (only r side)
-    known number G N = A.good number (C.good number G N has) (λ long. N (long-between long)) film
-
-    grows₂ : peak_in c ≤ peak_in c₂
-    grows₂ = omega (arith, C.grows, A.peak)
-
-    pub stopped : is_done t ≡ false → Treated Right (slices a b index c) (slices a₂ b₂ index₂ c₂) t wanted
-    stopped d = record {
-      grows = grows₂;
-      told = λ number G N. (row-stopped a₁ b (left - 1) level (progress c₁ Done) (level + 1) side e r attached d ∙ sym (goes_on number G N), λ f. absurd (not_done {t = t} d f));
-    }
-
-    -- step 4
-    module _ (done : is_done t ≡ true) {other : Side} {top : Place} {k : ℕ} {f : Found} (other-is : other ≡ other_side side) (top_is : top ≡ up.bottom other (edge_of e)) (number_is : k ≡ number_below other e)
-        (M : Met a₂ index₂ c₂ level other top k e.apart f) where
-      numbered : (number : Place → ℕ) → Numbered number index c e → Long index₂ c₂ → k ≡ number top
-      numbered number N long = number_is ∙ N (long-before long) other ∙ ap number (sym top_is)
-
-      searched : (number : Place → ℕ) → Indexed number index a c none → Numbered number index c e → f ≡ up.pick_meeting e.apart (up.found_below (has_tip_in a₂ level other top) (peak_in c₂))
-      searched number G N = M.found number (but-more (known number G N) (λ q x h. h.1 ∙ other-twice side ∙ ap other_side (sym other-is))) (numbered number N)
-
-      tip : tip_of a₂ r side ≡ top
-      tip = A.tip (is-done-is t done) film ∙ (rw (top_is, other-is))
+    module _ {f : Option ℕ} (M : Met l₂ level side e f) where
+      searched : (number : Place → ℕ) → Good number l none → Numbered number l e → Next → f ≡ up.pick_meeting e.apart (up.found_below (has_tip_in l₂.rows level (other_side side) (up.top side (edge_of e))) (peak_in l₂.counts))
+      searched number G N next = M.found number (but-more (known number G N next) (λ q x h. h.1 ∙ other-twice side)) (numbered number N)
 
       -- nothing meets it: the tip is marked
-      pub unmet : f ≡ Nothing → {index₃ : List ℕ} → index₃ ≡ marked_in a₂ index₂ level side k r → Treated Right (slices a b index c) (slices a₂ b₂ index₃ c₂) Done wanted
-      unmet None-found {index₃} marked = record {
+      unmet : f ≡ None → Stepped l level e (Ok None) (record l₂ { index = marked_in l₂.rows l₂.index level side (number_below (other_side side) e) r })
+      unmet nothing = record {
         grows = grows₂;
-        told = λ number G N. (
-          rw (is-done-is t done) at (row-unmet a₁ b (left - 1) level (progress c₁ Done) (level + 1) side e r attached done other-is top_is (searched number G N) None-found) ∙ sym (goes_on number G N),
-          λ d. rw marked (indexed-marked (known number G N) r level side (A.level ∙ (C.row has).0) (λ long. numbered number N long ∙ ap number (sym tip)) (λ q x h. inr h)),
+        both = tt;
+        leaves = λ number G N next. (
+          row-unmet l₁.rows l₁.journal next (progress l₁.records l₁.counts (Ok tt)) level side e r {a₁ = l₂.rows} {b₁ = l₂.journal} {p = progress l₂.records l₂.counts (Ok tt)} attached refl (searched number G N next) nothing
+              ∙ goes_on number G N next,
+          indexed-marked (known number G N next) r level side (A.level_kept ∙ C.row.1) (λ long. numbered number N long (other_side side) ∙ ap number (sym tip)) (λ q x h. inr h),
         );
       }
 
-      -- row q meets it: both branches are finished, and the two rows are passed up
-      module _ {q : ℕ} (met : f ≡ At q) {a₃ a₄ : List ℤ} (finished : a₃ ≡ finished_in a₂ q other) (finished₂ : a₄ ≡ finished_in a₃ r side) where
-        pub has-met : HasRow a₂ q
-        has-met = tip-has-row a₂ level other top q (M.there q met).0
+      -- row q meets it: both branches are finished
+      module _ {q : ℕ} (met : f ≡ Some q) where
+        pub has-met : HasRow l₂.rows q
+        has-met = tip-has-row l₂.rows level (other_side side) (up.top side (edge_of e)) q (M.there q met).0
 
-        pub has-row : HasRow a₂ r
-        has-row = omega (arith, has, la₁, la₂)
+        pub has-row : HasRow l₂.rows r
+        has-row = omega (arith, C.row.0, K₂.rows)
 
-        length-four : length a₄ ≡ length a₂
-        length-four = rw (finished₂, finished) ((finished-only (finished_in a₂ q other) r side).kept ∙ (finished-only a₂ q other).kept)
+        abbrev one : List ℤ
+        one = finished_in l₂.rows q (other_side side)
 
-        both-known : (number : Place → ℕ) → Indexed number index₂ a₂ c₂ (only r side) → Indexed number index₂ a₄ c₂ none
-        both-known number I =
-            let one : Indexed number index₂ (finished_in a₂ q other) c₂ (only r side) = indexed-finished q has-met I other (λ z x h. inl h) (in-use-finished I.in_use q has-met other) in
-            let there : HasRow (finished_in a₂ q other) r = omega (arith, has-row, (finished-only a₂ q other).kept) in
-            rw (finished₂, finished) (indexed-finished r there one side (λ z x h. inr h) (in-use-finished one.in_use r there side))
+        abbrev two : List ℤ
+        two = finished_in one r side
 
-        pub met-both : {after : Slices} {u : End} →
-            Treated (λ number. (q < peak_in c₂) × (r < peak_in c₂)) (slices a₄ b₂ index₂ c₂) after u (up.pass_both (lent_room a₄ b₂) (up.treat (lent_room a₄ b₂) (left - 1) (level + 1)) (state a₄ b₂ (progress c₂ Done)) q r) →
-            Treated Right (slices a b index c) after u wanted
-        met-both {after} {u} T = record {
-          grows = omega (arith, grows₂, T.grows);
-          told = λ number G N.
-              let h = T.told number (both-known number (known number G N)) ((M.there q met).1, omega (arith, (C.row has).2, A.peak)) in
-              let passed : state_of after u ≡ up.pass_both (lent_room a₄ b₂) (up.treat (lent_room a₄ b₂) (left - 1) (level + 1)) (state a₄ b₂ (progress c₂ t)) q r = rw (is-done-is t done) h.0 in (
-                row-met a₁ b (left - 1) level (progress c₁ Done) (level + 1) side e r attached done other-is top_is (searched number G N) met finished finished₂
-                    (length-four ∙ la₂) lb₂ {a₄ = after.rows} {b₄ = after.journal} {p₄ = progress after.counts u} passed
-                    ∙ sym (goes_on number G N),
-                h.1,
-              );
+        length-one : length one ≡ length l₂.rows
+        length-one = (finished-only l₂.rows q (other_side side)).kept
+
+        length-two : length two ≡ length l₂.rows
+        length-two = (finished-only one r side).kept ∙ length-one
+
+        both-known : {number : Place → ℕ} → Good number l₂ (only r side) → Indexed number l₂.index two l₂.counts none
+        both-known {number} I =
+            let J : Indexed number l₂.index one l₂.counts (only r side) = indexed-finished q has-met I (other_side side) (λ z x h. inl h) (in-use-finished I.in_use q has-met (other_side side)) in
+            let there : HasRow one r = omega (arith, has-row, length-one) in
+            indexed-finished r there J side (λ z x h. inr h) (in-use-finished J.in_use r there side)
+
+        step-met : Stepped l level e (Ok (Some (q, r))) (record l₂ { rows = two })
+        step-met = record {
+          grows = grows₂;
+          both = (omega (arith, has-met, length-two), omega (arith, has-row, length-two));
+          leaves = λ number G N next. (
+            rw (one-room K) at (row-met l₁.rows l₁.journal next (progress l₁.records l₁.counts (Ok tt)) level side e r {a₁ = l₂.rows} {b₁ = l₂.journal} {p = progress l₂.records l₂.counts (Ok tt)} attached refl (searched number G N next) met
+                ∙ goes_on number G N next),
+            both-known (known number G N next),
+            (M.there q met).1,
+            omega (arith, C.row.3, A.peak),
+          );
         }
+
+  -- the end of step 4, either way
+  pub step-end : t ≡ Ok tt → Kept l₁ l₂ → (f : Option ℕ) → Met l₂ level side e f → {o : Option (ℕ × ℕ)} {a₃ : List ℤ} {index₃ : List ℕ} → Meets l₂.rows l₂.index level side e r f o a₃ index₃ →
+      Stepped l level e (Ok o) (record { rows = a₃; journal = l₂.journal; index = index₃; counts = l₂.counts; records = l₂.records })
+  step-end done K₂ None M E = rw (E.0, E.1, E.2) (unmet done K₂ M refl)
+  step-end done K₂ (Some q) M E = rw (E.0, E.1, E.2) (step-met done K₂ M refl)
+
+-- the steps of an edge whose ends differ, with a level left, make its treatment
+module _ (l : Slices) (left level : ℕ) (e : NamedEdge) (differ : is_same e.tail e.head ≡ false) (some_left : 0 < left) where
+  abbrev wanted : Want
+  wanted = up.treat (room_of l) left level (state_of l (Ok tt)) (edge_of e)
+
+  abbrev next_up : Slices → Next
+  next_up m = up.treat (room_of m) (left - 1) (level + 1)
+
+  steps : wanted ≡ up.steps_on (room_of l) (next_up l) (state_of l (Ok tt)) level (up.side_of film_places (edge_of e)) (edge_of e)
+  steps = treat-steps l.rows l.journal left level (progress l.records l.counts (Ok tt)) e (up.side_of film_places (edge_of e)) differ some_left refl
+
+  pub step-halted : {l₁ : Slices} {u : Halt} → Stepped l level e (Err u) l₁ → Treated (λ number. Numbered number l e) l l₁ (Err u) wanted
+  step-halted {l₁} {u} S = record {
+    grows = S.grows;
+    told = λ number G N. (S.leaves number G N (next_up l) ∙ sym steps, λ d. absurd (not_done {t = Err u} refl d));
+  }
+
+  pub step-done : {l₁ : Slices} {o : Option (ℕ × ℕ)} → o ≡ None → Stepped l level e (Ok o) l₁ → Treated (λ number. Numbered number l e) l l₁ (Ok tt) wanted
+  step-done {l₁} none_met S₀ = let S : Stepped l level e (Ok None) l₁ = rw none_met at S₀ in record {
+    grows = S.grows;
+    told = λ number G N. let h = S.leaves number G N (next_up l) in (h.0 ∙ sym steps, λ d. h.1);
+  }
+
+  pub step-passed : {l₁ : Slices} {o : Option (ℕ × ℕ)} {p : ℕ × ℕ} → o ≡ Some p → Stepped l level e (Ok o) l₁ → Kept l l₁ → {after : Slices} {t : Result ⊤ Halt} →
+      Treated (λ number. (p.0 < peak_in l₁.counts) × (p.1 < peak_in l₁.counts)) l₁ after t (up.pass_both (room_of l₁) (next_up l₁) (state_of l₁ (Ok tt)) p.0 p.1) →
+      Treated (λ number. Numbered number l e) l after t wanted
+  step-passed {l₁} {o} {p} some_met S₀ K T = let S : Stepped l level e (Ok (Some p)) l₁ = rw some_met at S₀ in record {
+    grows = omega (arith, S.grows, T.grows);
+    told = λ number G N.
+        let h = S.leaves number G N (next_up l) in
+        let k = T.told number h.1 (h.2, h.3) in
+        ((rw (one-room K) at k.0) ∙ h.0 ∙ sym steps, k.1);
+  }

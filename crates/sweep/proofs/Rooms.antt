@@ -1,6 +1,7 @@
 -- What the laws of the treatment share: slices that keep their lengths make one room, what follows a treatment that is done or not, and when a row may be
 -- opened: where the slice has the lowest free one. The steps ask too that fewer rows are in use than there are, which is then so: rows in use are rows of
 -- the slice, and this one is not in use.
+use Rattle.std.specs.Prelude.{Result, ⊤, Ok, Err}
 use mathlib.Core.Path.{◌≡◌, refl, ap}
 use mathlib.Core.Bool.{true, false}
 use mathlib.Core.List.{List}
@@ -10,8 +11,6 @@ use lib.Dec.{ltb}
 use lib.IntN.{ℤ}
 use lib.ListN.{length}
 use Rattle.laws.proofs.Deciding.{not-both}
-use Rattle.steps.specs.declared.End.{End}
-use Rattle.steps.specs.declared.End.TheVariants.{Done, NoFreeRow, Overrun}
 use Rattle.steps.specs.Rows.{lowest_free}
 use Rattle.steps.specs.SweepUp as up
 use Rattle.steps.specs.SweepUp.{after_done}
@@ -22,29 +21,27 @@ use Rattle.rows.specs.Layout.{look_row}
 use Rattle.rows.proofs.Searching.{past-free, slice-alone}
 use Rattle.sweep.specs.declared.Progress.{Progress}
 use Rattle.sweep.specs.Slices.{room, lent_room, state, is_done}
+use Rattle.steps.specs.declared.Halt.{Halt}
 
 pub same-room : (a b a₁ b₁ : List ℤ) → length a₁ ≡ length a → length b₁ ≡ length b → lent_room a₁ b₁ ≡ lent_room a b
 same-room a b a₁ b₁ la lb = rw (la, lb)
 
 module _ {A : Type 0} (s t : A) where
-  pub stops : (x : End) → is_done x ≡ false → after_done x s t ≡ s
-  stops Done h = absurd (not-both refl h)
-  stops NoFreeRow h = refl
-  stops Overrun h = refl
+  pub stops : (x : Result ⊤ Halt) → is_done x ≡ false → after_done x s t ≡ s
+  stops (Ok _) h = absurd (not-both refl h)
+  stops (Err _) h = refl
 
-  pub goes_on : (x : End) → is_done x ≡ true → after_done x s t ≡ t
-  goes_on Done h = refl
-  goes_on NoFreeRow h = absurd (not-both h refl)
-  goes_on Overrun h = absurd (not-both h refl)
+  pub goes_on : (x : Result ⊤ Halt) → is_done x ≡ true → after_done x s t ≡ t
+  goes_on (Ok _) h = refl
+  goes_on (Err _) h = absurd (not-both h refl)
 
--- not done is not Done
-pub not_done : {t : End} → is_done t ≡ false → t ≡ Done → ⊥
+-- not done is not (Ok tt)
+pub not_done : {t : Result ⊤ Halt} → is_done t ≡ false → t ≡ Ok tt → ⊥
 not_done d e = not-both (ap is_done e) d
 
-pub is-done-is : (t : End) → is_done t ≡ true → t ≡ Done
-is-done-is Done d = refl
-is-done-is NoFreeRow d = absurd (not-both d refl)
-is-done-is Overrun d = absurd (not-both d refl)
+pub is-done-is : (t : Result ⊤ Halt) → is_done t ≡ true → t ≡ Ok tt
+is-done-is (Ok _) d = refl
+is-done-is (Err _) d = absurd (not-both d refl)
 
 -- the lowest free row
 module _ (a b : List ℤ) (s : Progress) {r : ℕ} (free : r ≡ lowest_free look_row a s.peak) where

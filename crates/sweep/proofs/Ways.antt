@@ -1,5 +1,6 @@
 -- One law for each way out of the functions that treat an edge: what the calls leave makes up the step. Rooms of slices that keep their lengths are
 -- one room, so a callee's room is the caller's.
+use Rattle.std.specs.Prelude.{Option, Some, None, Err}
 use mathlib.Core.Path.{◌≡◌, refl, sym, ◌∙◌}
 use mathlib.Core.Bool.{Bool, true, false}
 use mathlib.Core.List.{List}
@@ -15,9 +16,6 @@ use Rattle.sheet.specs.Points.{is_same}
 use Rattle.sheet.proofs.Signed.{same_z-self}
 use Rattle.rows.specs.declared.Place.{Place}
 use Rattle.steps.specs.declared.Side.{Side}
-use Rattle.steps.specs.declared.Found.{Found}
-use Rattle.steps.specs.declared.Found.TheVariants.{At, Nothing}
-use Rattle.steps.specs.declared.End.TheVariants.{NoFreeRow, Overrun}
 use Rattle.steps.specs.Rows.{other_side, LevelEdge, lowest_free}
 use Rattle.steps.specs.SweepUp as up
 use Rattle.steps.specs.SweepUp.{State, found_below, both_finished}
@@ -28,6 +26,7 @@ use Rattle.sweep.specs.declared.Progress.{Progress}
 use Rattle.sweep.specs.declared.NamedEdge.{NamedEdge}
 use Rattle.sweep.specs.Slices.{room, lent_room, state, edge_of, is_done}
 use Rattle.sweep.proofs.Rooms.{same-room, stops, goes_on, chosen_is, can-open}
+use Rattle.steps.specs.declared.Halt.TheVariants.{NoFreeRow, Overrun}
 
 abbrev Next : Type 0
 Next = State (List ℤ) (List ℤ) → LevelEdge Place → State (List ℤ) (List ℤ)
@@ -68,32 +67,29 @@ module _ (a b : List ℤ) (left level : ℕ) (s : Progress) (q r : ℕ) {a₁ b�
     both-passed d la lb j = rw (ne_eqb q r n, ← i) ((rw (same-room a b a₁ b₁ la lb) at j) ∙ sym (goes_on _ _ p.end d))
 
 -- steps 2 to 4 on a row
-module _ (a b : List ℤ) (left level : ℕ) (s : Progress) (above : ℕ) (side : Side) (e : NamedEdge) (r : ℕ) {a₁ b₁ : List ℤ} {p : Progress}
+module _ (a b : List ℤ) (next : Next) (s : Progress) (level : ℕ) (side : Side) (e : NamedEdge) (r : ℕ) {a₁ b₁ : List ℤ} {p : Progress}
     (i : state a₁ b₁ p ≡ up.attach (lent_room a b) (state a b s) level side (edge_of e) r) where
-  pub row-stopped : is_done p.end ≡ false → state a₁ b₁ p ≡ up.on_row (lent_room a b) (up.treat (lent_room a b) left above) (state a b s) level side (edge_of e) r
+  pub row-stopped : is_done p.end ≡ false → state a₁ b₁ p ≡ up.on_row (lent_room a b) next (state a b s) level side (edge_of e) r
   unfolding up.on_row
   row-stopped d = rw (← i) (sym (stops _ _ p.end d))
 
-  module _ (d : is_done p.end ≡ true) {other : Side} {top : Place} {f : Found} (os : other ≡ other_side side) (ot : top ≡ up.bottom other (edge_of e))
-      (of : f ≡ up.pick_meeting e.apart (found_below (has_tip_in a₁ level other top) p.peak)) where
+  module _ (d : is_done p.end ≡ true) {f : Option ℕ} (of : f ≡ up.pick_meeting e.apart (found_below (has_tip_in a₁ level (other_side side) (up.top side (edge_of e))) p.peak)) where
     met : up.meeting (lent_room a b) (state a₁ b₁ p) level side (edge_of e) ≡ f
     unfolding up.meeting up.find room rows.row_slice has_tip_in
-    met = rw (of, ot, os)
+    met = rw of
 
-    pub row-unmet : f ≡ Nothing → state a₁ b₁ p ≡ up.on_row (lent_room a b) (up.treat (lent_room a b) left above) (state a b s) level side (edge_of e) r
+    pub row-unmet : f ≡ None → state a₁ b₁ p ≡ up.on_row (lent_room a b) next (state a b s) level side (edge_of e) r
     unfolding up.on_row up.meet
     row-unmet n = rw (← i, met, n) (sym (goes_on _ _ p.end d))
 
-    module _ {q : ℕ} (n : f ≡ At q) {a₂ a₃ : List ℤ} (f₂ : a₂ ≡ finished_in a₁ q other) (f₃ : a₃ ≡ finished_in a₂ r side) where
-      finished : up.finish (lent_room a b) (up.finish (lent_room a b) (state a₁ b₁ p) q (other_side side)) r side ≡ state a₃ b₁ p
+    module _ {q : ℕ} (n : f ≡ Some q) where
+      finished : up.finish (lent_room a b) (up.finish (lent_room a b) (state a₁ b₁ p) q (other_side side)) r side ≡ state (finished_in (finished_in a₁ q (other_side side)) r side) b₁ p
       unfolding up.finish room rows.row_slice
-      finished = rw (f₃, f₂, os)
+      finished = refl
 
-      pub row-met : length a₃ ≡ length a → length b₁ ≡ length b → {a₄ b₄ : List ℤ} {p₄ : Progress} →
-          state a₄ b₄ p₄ ≡ up.pass_both (lent_room a₃ b₁) (up.treat (lent_room a₃ b₁) left above) (state a₃ b₁ p) q r →
-          state a₄ b₄ p₄ ≡ up.on_row (lent_room a b) (up.treat (lent_room a b) left above) (state a b s) level side (edge_of e) r
+      pub row-met : up.pass_both (lent_room a b) next (state (finished_in (finished_in a₁ q (other_side side)) r side) b₁ p) q r ≡ up.on_row (lent_room a b) next (state a b s) level side (edge_of e) r
       unfolding up.on_row up.meet
-      row-met la lb j = rw (← i, met, n, finished) ((rw (same-room a b a₃ b₁ la lb) at j) ∙ sym (goes_on _ _ p.end d))
+      row-met = rw (← i, met, n, finished) (sym (goes_on _ _ p.end d))
 
 -- an edge's ends are of one film, so they are the same where their points are
 same_ends : (e : NamedEdge) → film_places.same (edge_of e).tail (edge_of e).head ≡ is_same e.tail e.head
@@ -112,7 +108,7 @@ module _ (a b : List ℤ) (left level : ℕ) (s : Progress) (e : NamedEdge) {t :
       by (suc n) = rw (same_ends e, ← h, k)
 
   module _ (k : t ≡ false) where
-    pub treat-none-left : left ≡ 0 → up.ended Overrun (state a b s) ≡ up.treat (lent_room a b) left level (state a b s) (edge_of e)
+    pub treat-none-left : left ≡ 0 → up.ended (Err Overrun) (state a b s) ≡ up.treat (lent_room a b) left level (state a b s) (edge_of e)
     unfolding up.treat room
     treat-none-left z = rw (z, same_ends e, ← h, k)
 
@@ -127,18 +123,18 @@ treat-steps a b left level s e side d m es = by left m
     by (suc n) h = let z : suc n - 1 ≡ n = omega arith in rw (same_ends e, d, z, add-one, es)
 
 -- step 1: a row found, a row opened, or none
-module _ (a b : List ℤ) (level : ℕ) (s : Progress) (e : NamedEdge) (side : Side) (p : Place) {f : Found} (next : Next) (bottom_is : p ≡ up.bottom side (edge_of e))
+module _ (a b : List ℤ) (level : ℕ) (s : Progress) (e : NamedEdge) (side : Side) (p : Place) {f : Option ℕ} (next : Next) (bottom_is : p ≡ up.bottom side (edge_of e))
     (found-is : f ≡ found_below (has_tip_in a level side p) s.peak) where
   steps : up.steps_on (lent_room a b) next (state a b s) level side (edge_of e) ≡ up.in_chain (lent_room a b) next (state a b s) level side (edge_of e) f
   unfolding up.steps_on up.find room rows.row_slice has_tip_in
   steps = rw (found-is, bottom_is)
 
-  pub chain-found : {r : ℕ} → f ≡ At r → up.steps_on (lent_room a b) next (state a b s) level side (edge_of e) ≡ up.on_row (lent_room a b) next (state a b s) level side (edge_of e) r
+  pub chain-found : {r : ℕ} → f ≡ Some r → up.steps_on (lent_room a b) next (state a b s) level side (edge_of e) ≡ up.on_row (lent_room a b) next (state a b s) level side (edge_of e) r
   unfolding up.in_chain
   chain-found n = rw (steps, n)
 
-  module _ (n : f ≡ Nothing) {r : ℕ} (free : r ≡ lowest_free look_row a s.peak) where
-    pub chain-none : rows_in a ≤ r → up.steps_on (lent_room a b) next (state a b s) level side (edge_of e) ≡ up.ended NoFreeRow (state a b s)
+  module _ (n : f ≡ None) {r : ℕ} (free : r ≡ lowest_free look_row a s.peak) where
+    pub chain-none : rows_in a ≤ r → up.steps_on (lent_room a b) next (state a b s) level side (edge_of e) ≡ up.ended (Err NoFreeRow) (state a b s)
     unfolding up.in_chain
     chain-none m = rw (steps, n, can-open a b s free, le-ltb r (rows_in a) m)
 

@@ -1,13 +1,10 @@
 -- The steps on the lent slices: places are points with films, a table of rows and a journal are slices of numbers. The code's own values, its progress and an edge
 -- with its name and lengths, as the steps have them.
-use Rattle.std.specs.Prelude.{ℕ, ◌+◌, ◌*◌, ◌<◌, ◌≡◌, Bool, true, false, List, ℤ, get_or}
-use Rattle.laws.specs.Counting.{bit}
+use Rattle.std.specs.Prelude.{ℕ, ◌+◌, ◌*◌, ◌<◌, ◌≡◌, Bool, true, false, List, ℤ, get_or, Result, ⊤, Ok, Err}
 use Rattle.rows.specs.declared.Place.{Place}
 use Rattle.sheet.specs.Rank.{place_on}
 use Rattle.sheet.specs.Edges.{edge_at, drawing_of}
 use Rattle.sheet.specs.Corners.{apart}
-use Rattle.steps.specs.declared.End.{End}
-use Rattle.steps.specs.declared.End.TheVariants.{Done, NoFreeRow, Overrun}
 use Rattle.steps.specs.Rows.{LevelEdge, Room}
 use Rattle.steps.specs.declared.Side.{Side}
 use Rattle.steps.specs.declared.Side.TheVariants.{Rising, Falling}
@@ -21,6 +18,7 @@ use Rattle.journal.specs.Layout.{records_in}
 use Rattle.sweep.specs.declared.Progress.{Progress}
 use Rattle.sweep.specs.declared.NamedEdge.{NamedEdge}
 use Rattle.sweep.specs.declared.Swept.{Swept}
+use Rattle.steps.specs.declared.Halt.{Halt}
 
 -- so many rows, of which all may be in use, and so many records
 unfoldable pub room : ℕ → ℕ → Room Place (List ℤ) (List ℤ)
@@ -42,9 +40,9 @@ abbrev pub number_below : Side → NamedEdge → ℕ
 number_below Rising e = e.tails
 number_below Falling e = e.heads
 
--- The counts beside the slices: number 0 is how many records are written, number 1 the peak; the others are of the crate finding. How far the sweep has come by them.
-abbrev pub progress : List ℕ → End → Progress
-progress counts t = record { records = get_or counts 0 0; peak = peak_in counts; end = t }
+-- how far the sweep has come by the number of records and the counts, which are of the crate finding
+abbrev pub progress : ℕ → List ℕ → Result ⊤ Halt → Progress
+progress records counts t = record { records = records; peak = peak_in counts; end = t }
 
 -- which places of a list are apart
 unfoldable pub apart_at : List ℤ → Place → Bool
@@ -54,9 +52,9 @@ apart_at s p = apart (drawing_of s) (place_on p.film p.point)
 abbrev pub list_edges : List ℤ → ℕ → LevelEdge Place
 list_edges s i = list_edge film_places (apart_at s) i (on_film (edge_at s i).film (edge_at s i).tail) (on_film (edge_at s i).film (edge_at s i).head)
 
--- a mark for each of n edges: 1 where the place of its top is apart, otherwise 0
-abbrev pub TopsMarked : List ℤ → ℕ → List ℕ → Type 0
-TopsMarked s n marks = (i : ℕ) → i < n → get_or marks i 0 ≡ bit (list_edges s i).apart
+-- a mark for each of n edges: whether the place of its top is apart
+abbrev pub TopsMarked : List ℤ → ℕ → List Bool → Type 0
+TopsMarked s n marks = (i : ℕ) → i < n → get_or marks i false ≡ (list_edges s i).apart
 
 -- the number of the place of each end of n edges, an edge's tail first, then its head
 pub record PlacesNumbered (s : List ℤ) (n : ℕ) (numbers : List ℕ) : Type 0 where
@@ -64,10 +62,9 @@ pub record PlacesNumbered (s : List ℤ) (n : ℕ) (numbers : List ℕ) : Type 0
   pub tails : (i : ℕ) → i < n → get_or numbers (2 * i) 0 ≡ number (list_edges s i).tail
   pub heads : (i : ℕ) → i < n → get_or numbers (2 * i + 1) 0 ≡ number (list_edges s i).head
 
-abbrev pub is_done : End → Bool
-is_done Done = true
-is_done NoFreeRow = false
-is_done Overrun = false
+abbrev pub is_done : Result ⊤ Halt → Bool
+is_done (Ok _) = true
+is_done (Err _) = false
 
 abbrev pub swept : List ℤ → List ℤ → Swept → Sweep (List ℤ) (List ℤ)
 swept a b w = record { state = state a b w.progress; edge = w.edge }

@@ -14,32 +14,21 @@ ghost use Rattle.sweep.specs.Slices.{edge_of, number_below, is_done};
 
 use rows::Place;
 use sheet::Point;
-use steps::{End, Side};
+use steps::{Halt, Side};
 
 // How far a sweep up has come: the records written, the peak, and how the last treatment ended.
-#[derive(Clone, Copy)]
+#[derive(Clone, Copy, Debug, PartialEq, Eq)]
 pub struct Progress {
     pub records: usize,
     pub peak: usize,
-    pub end: End,
+    pub end: Result<(), Halt>,
 }
 
 impl Progress {
     pub fn is_done(self) -> bool
         ensures { result ≡ is_done self.end }
     {
-        let end = self.end;
-        is_done(end)
-    }
-}
-
-fn is_done(end: End) -> bool
-    ensures { result ≡ is_done end }
-{
-    match end {
-        End::Done => true,
-        End::NoFreeRow => false,
-        End::Overrun => false,
+        self.end.is_ok()
     }
 }
 
@@ -62,8 +51,7 @@ impl NamedEdge {
     fn side(self) -> Side
         ensures { result ≡ up.side_of film_places (edge_of self) }
     {
-        let tail = self.tail;
-        if tail.below(self.head) {
+        if self.tail < self.head {
             Side::Rising
         } else {
             Side::Falling
@@ -74,17 +62,13 @@ impl NamedEdge {
     fn bottom(self, side: Side) -> Place
         ensures { result ≡ up.bottom side (edge_of self) }
     {
-        let film = self.film;
-        let point = self.bottom_point(side);
-        Place { film, point }
-    }
-
-    fn bottom_point(self, side: Side) -> Point
-        ensures { result ≡ (up.bottom side (edge_of self)).point }
-    {
-        match side {
+        let point = match side {
             Side::Rising => self.tail,
             Side::Falling => self.head,
+        };
+        Place {
+            film: self.film,
+            point,
         }
     }
 
@@ -109,7 +93,7 @@ impl NamedEdge {
 }
 
 // What the loop over a list ended with: the progress, and the edge that was treated last.
-#[derive(Clone, Copy)]
+#[derive(Clone, Copy, Debug, PartialEq, Eq)]
 pub struct Swept {
     pub progress: Progress,
     pub edge: usize,

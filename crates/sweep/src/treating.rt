@@ -1,30 +1,29 @@
 // An edge of any level treated: step 1 finds or opens its chain's row, steps 2 and 3 attach it, step 4 finishes branches that meet, and frees and passes up
 // each row that is finished on both sides. A row passed up is an edge of the next level, so raising it calls itself one level up, with one level less left.
 // Beside the rows lie the index and the counts, which spare searches (crate finding); what they rest on is handed on as it is.
-ghost use Rattle.std.specs.Prelude.{◌≡◌, List, ◌+◌, ◌-◌, ◌≤◌, ◌<◌, max, ℤ, length, get_or};
+ghost use Rattle.std.specs.Prelude.{◌≡◌, ◌+◌, ◌-◌, ◌≤◌, ◌<◌, ◌↔◌, IsTrue, Ok, max, length, get_or};
+ghost use Rattle.steps.specs.Rows.{on, other_side};
 ghost use Rattle.steps.specs.SweepUp as up;
 ghost use Rattle.steps.specs.SweepUp.{levels};
-ghost use Rattle.rows.specs.Layout.{HasRow, look_row, opened_in};
+ghost use Rattle.rows.specs.Layout.{HasRow, look_row, opened_in, moved_in};
 ghost use Rattle.finding.specs.Free.{peak_in};
-ghost use Rattle.finding.specs.Index.{tip_at};
-ghost use Rattle.sweep.specs.Slices.{lent_room, state, edge_of, progress, number_below};
-ghost use Rattle.sweep.specs.Treated.{Recorded, Opened, Chained, Attached, Met, Numbered, slices, Treated};
+ghost use Rattle.finding.specs.Index.{tip_at, numbered_in};
+ghost use Rattle.journal.specs.Layout.{records_in};
+ghost use Rattle.sweep.specs.Slices.{edge_of, number_below};
+ghost use Rattle.sweep.specs.Beside.{Opened, HasFound, Meets};
 
-use crate::{NamedEdge, is_done};
+use crate::NamedEdge;
 use finding::{free, index};
-use rows::Place;
-use steps::{End, Found, Side};
+use steps::{Halt, Side};
 
 // The largest length that a row holds.
 const MOST_LENGTH: u64 = 2_147_483_647;
 
-// Which of the counts is the number of records, and which the peak.
-pub const RECORDS: usize = 0;
-
-pub const PEAK: usize = 1;
-
 // The levels that an edge of the list has above it.
 const LEVELS: u32 = 12;
+
+// The functions that write rows and index stand beside the methods: tried as methods, which read `self.rows` while `self.index` is lent, and the proof did not close.
+// What is inlined was measured: where it is not, the sweep up takes half as many instructions again.
 
 // An offset with its sign: a minus on the falling side.
 fn signed(side: Side, n: u32) -> i32
@@ -37,32 +36,9 @@ fn signed(side: Side, n: u32) -> i32
     }
 }
 
-// A closing edge: only a record.
-fn close(journal: &mut [i32], counts: &mut [u64], level: u32, e: NamedEdge) -> End
-    requires { (e.falling < 2147483648) × (3 ≤ length counts.old) }
-    ensures result_after { (a : List ℤ) → state a journal.new (progress counts.new result) ≡ up.close (lent_room a journal.old) (state a journal.old (progress counts.old End.Done)) level (edge_of e) }
-    ensures recorded { Recorded counts.old counts.new }
-{
-    let records = counts[RECORDS] as usize;
-    if journal::records_in(journal) <= records {
-        return End::Overrun;
-    }
-    let name = e.name;
-    let falling = e.falling;
-    journal::write_closing(journal, records, level, name, falling as i32);
-    counts[RECORDS] = (records + 1) as u64;
-    End::Done
-}
-
-// The higher of the peak and a number of rows.
-fn higher_of(a: u64, b: u64) -> u64
-    ensures { result ≡ max a b }
-{
-    if a < b { b } else { a }
-}
-
-// The lowest free row opened at a place, for an edge that works on the side: its tip there is moved at once, and not marked. As the rows below it are in use, its
-// name tells the peak.
+// The lowest free row opened at an edge's bottom, where the edge works on the side: its tip there is moved at once, and not marked. As the rows below it are in
+// use, its name tells the peak.
+#[inline(never)]
 fn open_lowest(
     rows: &mut [i32],
     index: &mut [u16],
@@ -70,270 +46,301 @@ fn open_lowest(
     r: usize,
     level: u32,
     side: Side,
-    tip: Place,
-    number: u16,
+    e: NamedEdge,
 )
     requires { HasRow rows.old r × (level < 2147483647) × (3 ≤ length counts.old) }
-    ensures rows_after { rows.new ≡ opened_in rows.old r level tip }
-    ensures opened { Opened rows.old index.old counts.old r side tip number rows.new index.new counts.new }
+    ensures rows_after { rows.new ≡ opened_in rows.old r level (up.bottom side (edge_of e)) }
+    ensures opened { Opened rows.old index.old counts.old r side (up.bottom side (edge_of e)) (number_below side e) rows.new index.new counts.new }
 {
-    rows::open_row(rows, r, level, tip);
+    let number = e.bottom_number(side);
+    rows::open_row(rows, r, level, e.bottom(side));
     index::set_number(rows, index, r, Side::Rising, number);
     index::set_number(rows, index, r, Side::Falling, number);
     index::mark(rows, index, level, side.other(), number, r);
     free::take(counts, r);
-    counts[PEAK] = higher_of(counts[PEAK], (r + 1) as u64);
+    counts[free::PEAK] = counts[free::PEAK].max((r + 1) as u64);
 }
 
-// Step 1: the row of an edge's chain, whose bottom is the tip with the number, found or opened. As many as there are rows where none is free.
-fn chain_row(
-    rows: &mut [i32],
-    index: &mut [u16],
-    counts: &mut [u64],
-    level: u32,
-    side: Side,
-    tip: Place,
-    number: u16,
-) -> usize
-    requires { (level < 2147483647) × (3 ≤ length counts.old) }
-    ensures { (e : NamedEdge) → tip ≡ up.bottom side (edge_of e) → number ≡ number_below side e → Chained rows.old index.old counts.old level side e result rows.new index.new counts.new }
+// A tip moved to an edge's top, with its number and the chain's new length. It is not marked yet: it may be finished at once.
+fn move_tip(rows: &mut [i32], index: &mut [u16], r: usize, side: Side, e: NamedEdge, length: u32)
+    requires { HasRow rows.old r × (length < 2147483648) }
+    ensures rows_after { rows.new ≡ moved_in rows.old r side (up.top side (edge_of e)) length }
+    ensures index_after { index.new ≡ numbered_in index.old r side (number_below (other_side side) e) }
 {
-    let slot = index::slot(level, side, number);
-    let Found::At(r) = index::find(rows, index, counts, level, side, tip, slot) else {
-        let free = free::lowest_free(rows, counts);
-        if free < rows::rows_in(rows) {
-            open_lowest(rows, index, counts, free, level, side, tip, number);
-        }
-        return free;
-    };
-    r
+    let other = side.other();
+    rows::move_tip(rows, r, side, e.bottom(other), length);
+    index::set_number(rows, index, r, side, e.bottom_number(other));
 }
 
-// Steps 2 and 3: the record, and the tip moved to the edge's top. The tip is not marked yet: it may be finished at once.
-fn attach(
+// The end of step 4: with no row that meets it, the tip of row r at an edge's top is marked; otherwise both branches are finished. The answer is the two rows then.
+fn meet(
     rows: &mut [i32],
-    journal: &mut [i32],
     index: &mut [u16],
-    counts: &mut [u64],
     level: u32,
     side: Side,
     e: NamedEdge,
     r: usize,
-) -> End
-    requires { HasRow rows.old r × (3 ≤ length counts.old) }
-    ensures result_after { state rows.new journal.new (progress counts.new result) ≡ up.attach (lent_room rows.old journal.old) (state rows.old journal.old (progress counts.old End.Done)) level side (edge_of e) r }
-    ensures attached { Attached rows.old index.old counts.old side e r result rows.new index.new counts.new }
+    found: Option<usize>,
+) -> Option<(usize, usize)>
+    requires { HasRow rows.old r × HasFound rows.old found }
+    ensures { Meets rows.old index.old level side e r found result rows.new index.new }
 {
-    let records = counts[RECORDS] as usize;
-    if journal::records_in(journal) <= records {
-        return End::Overrun;
-    }
-    let before = rows::length_of(rows, r, side);
-    let longer = (before as u64) + (e.falling as u64) + (e.rising as u64);
-    if MOST_LENGTH < longer {
-        return End::Overrun;
-    }
-    let offset = signed(side, before + e.length(side.other()));
-    let name = e.name;
-    journal::write_attached(journal, records, level, name, r, offset);
-    let top = e.bottom(side.other());
-    rows::move_tip(rows, r, side, top, longer as u32);
-    index::set_number(rows, index, r, side, e.bottom_number(side.other()));
-    counts[RECORDS] = (records + 1) as u64;
-    End::Done
-}
-
-// A row with both branches finished, as an edge of the next level.
-fn as_edge(rows: &[i32], index: &[u16], r: usize) -> NamedEdge
-    requires { HasRow rows.now r }
-    ensures result_value { (edge_of result ≡ up.as_edge r (look_row rows.now r)) × (result.falling < 2147483648) }
-    ensures tails_value { (result.tails ≡ get_or index.now (tip_at r Side.Falling) 0) × (result.heads ≡ get_or index.now (tip_at r Side.Rising) 0) }
-{
-    let falling_tip = rows::tip_of(rows, r, Side::Falling);
-    let rising_tip = rows::tip_of(rows, r, Side::Rising);
-    let film = falling_tip.film;
-    let tail = falling_tip.point;
-    let head = rising_tip.point;
-    let rising = rows::length_of(rows, r, Side::Rising);
-    let falling = rows::length_of(rows, r, Side::Falling);
-    let tails = index::number_of(rows, index, r, Side::Falling);
-    let heads = index::number_of(rows, index, r, Side::Rising);
-    NamedEdge {
-        name: r,
-        tail,
-        head,
-        film,
-        rising,
-        falling,
-        apart: false,
-        tails,
-        heads,
-    }
-}
-
-// Step 4's search at level 0: the row whose branch on the side has its tip at the place; none where the place is apart.
-fn meeting(
-    rows: &[i32],
-    index: &[u16],
-    counts: &[u64],
-    side: Side,
-    tip: Place,
-    number: u16,
-    apart: bool,
-) -> Found
-    requires { 3 ≤ length counts.now }
-    ensures { Met rows.now index.now counts.now 0 side tip number apart result }
-{
-    if apart {
-        return Found::Nothing;
-    }
-    index::find(
-        rows,
-        index,
-        counts,
-        0,
-        side,
-        tip,
-        index::slot(0, side, number),
-    )
-}
-
-// An edge of the list. Equal ends close an outline; any other edge goes into the row found, or a free one. As `raise` has it, but for level 0: most edges are of that
-// level.
-pub fn treat_first(
-    rows: &mut [i32],
-    journal: &mut [i32],
-    index: &mut [u16],
-    counts: &mut [u64],
-    e: NamedEdge,
-) -> End
-    requires { (e.falling < 2147483648) × (3 ≤ length counts.old) }
-    ensures { Treated (λ number. Numbered number index.old counts.old e) (slices rows.old journal.old index.old counts.old) (slices rows.new journal.new index.new counts.new) result (up.treat (lent_room rows.old journal.old) levels 0 (state rows.old journal.old (progress counts.old End.Done)) (edge_of e)) }
-{
-    let tail = e.tail;
-    if tail.same(e.head) {
-        return close(journal, counts, 0, e);
-    }
-    let side = e.side();
-    let bottom = e.bottom(side);
-    let r = chain_row(rows, index, counts, 0, side, bottom, e.bottom_number(side));
-    if rows::rows_in(rows) <= r {
-        return End::NoFreeRow;
-    }
-    let t = attach(rows, journal, index, counts, 0, side, e, r);
-    if !is_done(t) {
-        return t;
-    }
     let other = side.other();
-    let top = e.bottom(other);
-    let number = e.bottom_number(other);
-    let Found::At(q) = meeting(rows, index, counts, other, top, number, e.apart) else {
-        index::mark(rows, index, 0, side, number, r);
-        return End::Done;
+    let Some(q) = found else {
+        index::mark(rows, index, level, side, e.bottom_number(other), r);
+        return None;
     };
     rows::finish(rows, q, other);
     rows::finish(rows, r, side);
-    pass_both(rows, journal, index, counts, 0, LEVELS, q, r)
+    Some((q, r))
 }
 
-// The row found, then this row; once where they are one. Each is passed up where both its branches are finished.
-#[cycle(pass_both_pass_up_raise)]
-fn pass_both(
-    rows: &mut [i32],
-    journal: &mut [i32],
-    index: &mut [u16],
-    counts: &mut [u64],
-    level: u32,
-    left: u32,
-    q: usize,
-    r: usize,
-) -> End
-    requires { HasRow rows.old q × HasRow rows.old r × (level + left ≡ levels) × (0 < left) × (3 ≤ length counts.old) }
-    ensures { Treated (λ number. (q < peak_in counts.old) × (r < peak_in counts.old)) (slices rows.old journal.old index.old counts.old) (slices rows.new journal.new index.new counts.new) result (up.pass_both (lent_room rows.old journal.old) (up.treat (lent_room rows.old journal.old) (left - 1) (level + 1)) (state rows.old journal.old (progress counts.old End.Done)) q r) }
-{
-    let t = pass_up(rows, journal, index, counts, level, left, q);
-    if !is_done(t) {
-        return t;
-    }
-    if q == r {
-        return t;
-    }
-    pass_up(rows, journal, index, counts, level, left, r)
+// A sweep up on its way: the rows and the journal that it fills, the index and the counts beside the rows, and how many records are written. Its methods take level,
+// side and edge one by one, as the steps do.
+#[derive(Drop)]
+pub struct Writer<'a> {
+    pub rows: &'a mut [i32],
+    pub journal: &'a mut [i32],
+    pub index: &'a mut [u16],
+    pub counts: &'a mut [u64],
+    pub records: usize,
+    ghost counted: { 3 ≤ length counts.now },
 }
 
-// A row passed up where both its branches are finished. Most are not: the test stands before the call.
-#[cycle(pass_both_pass_up_raise)]
-fn pass_up(
-    rows: &mut [i32],
-    journal: &mut [i32],
-    index: &mut [u16],
-    counts: &mut [u64],
-    level: u32,
-    left: u32,
-    r: usize,
-) -> End
-    requires { HasRow rows.old r × (level + left ≡ levels) × (0 < left) × (3 ≤ length counts.old) }
-    ensures { Treated (λ number. r < peak_in counts.old) (slices rows.old journal.old index.old counts.old) (slices rows.new journal.new index.new counts.new) result (up.pass_up (lent_room rows.old journal.old) (up.treat (lent_room rows.old journal.old) (left - 1) (level + 1)) (state rows.old journal.old (progress counts.old End.Done)) r) }
-{
-    if !rows::both_finished(rows, r) {
-        return End::Done;
-    }
-    raise(rows, journal, index, counts, level, left, r)
-}
+impl<'a> Writer<'a> {
+    ghost use Rattle.sweep.specs.Treated.{slices, room_of, state_of, SameLent, OnlyWritten, Found, Met, Free, Chained, Attached, Stepped, Numbered, Treated};
 
-// A row freed and treated as an edge of the next level. Its edge is read first: once free, the row may be opened again.
-#[cycle(pass_both_pass_up_raise)]
-fn raise(
-    rows: &mut [i32],
-    journal: &mut [i32],
-    index: &mut [u16],
-    counts: &mut [u64],
-    under: u32,
-    above: u32,
-    r: usize,
-) -> End
-    requires { HasRow rows.old r × (under + above ≡ levels) × (0 < above) × (3 ≤ length counts.old) }
-    ensures { Treated (λ number. r < peak_in counts.old) (slices rows.old journal.old index.old counts.old) (slices rows.new journal.new index.new counts.new) result (up.treat (lent_room rows.old journal.old) (above - 1) (under + 1) (up.free (lent_room rows.old journal.old) (state rows.old journal.old (progress counts.old End.Done)) r) (up.as_edge r (look_row rows.old r))) }
-{
-    let e = as_edge(rows, index, r);
-    rows::free_row(rows, r);
-    free::give_back(counts, r);
-    let level = under + 1;
-    let left = above - 1;
-    let tail = e.tail;
-    if tail.same(e.head) {
-        return close(journal, counts, level, e);
+    // Whether the journal holds no record more.
+    fn is_full(&self) -> bool
+        ensures { IsTrue result ↔ records_in self.now.journal.now ≤ self.now.records }
+    {
+        journal::records_in(self.journal) <= self.records
     }
-    if left == 0 {
-        return End::Overrun;
+
+    // As many rows as were ever in use at once.
+    pub fn peak(&self) -> usize
+        ensures { result ≡ peak_in self.now.counts.now }
+    {
+        self.counts[free::PEAK] as usize
     }
-    let side = e.side();
-    let bottom = e.bottom(side);
-    let row = chain_row(
-        rows,
-        index,
-        counts,
-        level,
-        side,
-        bottom,
-        e.bottom_number(side),
-    );
-    if rows::rows_in(rows) <= row {
-        return End::NoFreeRow;
+
+    // A closing edge: only a record.
+    #[inline(always)]
+    fn close(&mut self, level: u32, e: NamedEdge) -> Result<(), Halt>
+        requires { e.falling < 2147483648 }
+        ensures lent { SameLent self.old self.new }
+        ensures beside { OnlyWritten (slices self.old) (slices self.new) }
+        ensures closed { state_of (slices self.new) result ≡ up.close (room_of (slices self.old)) (state_of (slices self.old) (Ok tt)) level (edge_of e) }
+    {
+        if self.is_full() {
+            return Err(Halt::Overrun);
+        }
+        journal::write(
+            self.journal,
+            self.records,
+            level,
+            e.name,
+            None,
+            e.falling as i32,
+        );
+        self.records += 1;
+        Ok(())
     }
-    let t = attach(rows, journal, index, counts, level, side, e, row);
-    if !is_done(t) {
-        return t;
+
+    // The row whose branch on the side has its tip at the place of an edge's bottom there; on the edge's other side that is its top.
+    #[inline(always)]
+    fn find(&self, level: u32, side: Side, e: NamedEdge) -> Option<usize>
+        requires { level < 2147483647 }
+        ensures { Found (slices self.now) level side e result }
+    {
+        let slot = index::slot(level, side, e.bottom_number(side));
+        index::find(
+            self.rows,
+            self.index,
+            self.counts,
+            level,
+            side,
+            e.bottom(side),
+            slot,
+        )
     }
-    let other = side.other();
-    let top = e.bottom(other);
-    let number = e.bottom_number(other);
-    let slot = index::slot(level, other, number);
-    let Found::At(q) = index::find(rows, index, counts, level, other, top, slot) else {
-        index::mark(rows, index, level, side, number, row);
-        return End::Done;
-    };
-    rows::finish(rows, q, other);
-    rows::finish(rows, row, side);
-    pass_both(rows, journal, index, counts, level, left, q, row)
+
+    // Step 4's search: the row whose other branch has its tip at the place of an edge's top; none where that place is apart.
+    #[inline(always)]
+    fn meeting(&self, level: u32, side: Side, e: NamedEdge) -> Option<usize>
+        requires { level < 2147483647 }
+        ensures { Met (slices self.now) level side e result }
+    {
+        if e.apart {
+            return None;
+        }
+        self.find(level, side.other(), e)
+    }
+
+    // The lowest free row.
+    fn lowest_free(&self) -> Result<usize, Halt>
+        ensures { Free (slices self.now) result }
+    {
+        let free = free::lowest_free(self.rows, self.counts);
+        if free < rows::rows_in(self.rows) {
+            return Ok(free);
+        }
+        Err(Halt::NoFreeRow)
+    }
+
+    // Step 1: the row of an edge's chain, found or opened.
+    #[inline(always)]
+    fn chain_row(&mut self, level: u32, side: Side, e: NamedEdge) -> Result<usize, Halt>
+        requires { level < 2147483647 }
+        ensures lent { SameLent self.old self.new }
+        ensures chained { Chained (slices self.old) level side e result (slices self.new) }
+    {
+        let Some(found) = self.find(level, side, e) else {
+            let r = self.lowest_free()?;
+            open_lowest(self.rows, self.index, self.counts, r, level, side, e);
+            return Ok(r);
+        };
+        Ok(found)
+    }
+
+    // The length of a row's branch.
+    fn length_of(&self, r: usize, side: Side) -> u32
+        requires { HasRow self.now.rows.now r }
+        ensures { (result ≡ (on side (look_row self.now.rows.now r).branch).length) × (result < 2147483648) }
+    {
+        rows::length_of(self.rows, r, side)
+    }
+
+    // Steps 2 and 3: the record, and the tip moved to the edge's top.
+    #[inline(always)]
+    fn attach(&mut self, level: u32, side: Side, e: NamedEdge, r: usize) -> Result<(), Halt>
+        requires { HasRow self.old.rows.now r }
+        ensures lent { SameLent self.old self.new }
+        ensures attached { Attached (slices self.old) level side e r result (slices self.new) }
+    {
+        if self.is_full() {
+            return Err(Halt::Overrun);
+        }
+        let before = self.length_of(r, side);
+        let longer = u64::from(before) + u64::from(e.falling) + u64::from(e.rising);
+        if MOST_LENGTH < longer {
+            return Err(Halt::Overrun);
+        }
+        let offset = signed(side, before + e.length(side.other()));
+        journal::write(self.journal, self.records, level, e.name, Some(r), offset);
+        self.records += 1;
+        move_tip(self.rows, self.index, r, side, e, longer as u32);
+        Ok(())
+    }
+
+    // The four steps of an edge whose ends differ, at most as far as two branches met and are finished. The answer is their rows, which may now be passed up.
+    #[inline(always)]
+    fn step(&mut self, level: u32, e: NamedEdge) -> Result<Option<(usize, usize)>, Halt>
+        requires { level < 2147483647 }
+        ensures lent { SameLent self.old self.new }
+        ensures stepped { Stepped (slices self.old) level e result (slices self.new) }
+    {
+        let side = e.side();
+        let r = self.chain_row(level, side, e)?;
+        self.attach(level, side, e, r)?;
+        let found = self.meeting(level, side, e);
+        Ok(meet(self.rows, self.index, level, side, e, r, found))
+    }
+
+    // A row with both branches finished, as an edge of the next level.
+    fn as_edge(&self, r: usize) -> NamedEdge
+        requires { HasRow self.now.rows.now r }
+        ensures edge { (edge_of result ≡ up.as_edge r (look_row self.now.rows.now r)) × (result.falling < 2147483648) }
+        ensures numbers { (result.tails ≡ get_or self.now.index.now (tip_at r Side.Falling) 0) × (result.heads ≡ get_or self.now.index.now (tip_at r Side.Rising) 0) }
+    {
+        let falling_tip = rows::tip_of(self.rows, r, Side::Falling);
+        let rising_tip = rows::tip_of(self.rows, r, Side::Rising);
+        NamedEdge {
+            name: r,
+            tail: falling_tip.point,
+            head: rising_tip.point,
+            film: falling_tip.film,
+            rising: rows::length_of(self.rows, r, Side::Rising),
+            falling: rows::length_of(self.rows, r, Side::Falling),
+            apart: false,
+            tails: index::number_of(self.rows, self.index, r, Side::Falling),
+            heads: index::number_of(self.rows, self.index, r, Side::Rising),
+        }
+    }
+
+    // An edge of the list. Equal ends close an outline; any other edge goes into the row found, or a free one. As `raise` treats an edge, at level 0: out of the
+    // recursion, so that it goes into the loop over the list.
+    pub fn treat_first(&mut self, e: NamedEdge) -> Result<(), Halt>
+        requires { e.falling < 2147483648 }
+        ensures lent { SameLent self.old self.new }
+        ensures treated { Treated (λ number. Numbered number (slices self.old) e) (slices self.old) (slices self.new) result (up.treat (room_of (slices self.old)) levels 0 (state_of (slices self.old) (Ok tt)) (edge_of e)) }
+    {
+        if e.tail == e.head {
+            return self.close(0, e);
+        }
+        let Some((q, r)) = self.step(0, e)? else {
+            return Ok(());
+        };
+        self.pass_both(0, LEVELS, q, r)
+    }
+
+    // The row found, then this row; once where they are one. Each is passed up where both its branches are finished. Level and levels left go side by side: that
+    // the left ones fall is a form that 01 asks for.
+    #[cycle(pass_both_pass_up_raise)]
+    fn pass_both(&mut self, level: u32, left: u32, q: usize, r: usize) -> Result<(), Halt>
+        requires { HasRow self.old.rows.now q × HasRow self.old.rows.now r × (level + left ≡ levels) × (0 < left) }
+        ensures lent { SameLent self.old self.new }
+        ensures treated { Treated (λ number. (q < peak_in self.old.counts.now) × (r < peak_in self.old.counts.now)) (slices self.old) (slices self.new) result (up.pass_both (room_of (slices self.old)) (up.treat (room_of (slices self.old)) (left - 1) (level + 1)) (state_of (slices self.old) (Ok tt)) q r) }
+    {
+        self.pass_up(level, left, q)?;
+        if q == r {
+            return Ok(());
+        }
+        self.pass_up(level, left, r)
+    }
+
+    // Whether both branches of a row are finished.
+    fn is_finished(&self, r: usize) -> bool
+        requires { HasRow self.now.rows.now r }
+        ensures { result ≡ up.both_finished (look_row self.now.rows.now r) }
+    {
+        rows::both_finished(self.rows, r)
+    }
+
+    // A row passed up where both its branches are finished. Most are not: the test stands before the call.
+    #[cycle(pass_both_pass_up_raise)]
+    fn pass_up(&mut self, level: u32, left: u32, r: usize) -> Result<(), Halt>
+        requires { HasRow self.old.rows.now r × (level + left ≡ levels) × (0 < left) }
+        ensures lent { SameLent self.old self.new }
+        ensures treated { Treated (λ number. r < peak_in self.old.counts.now) (slices self.old) (slices self.new) result (up.pass_up (room_of (slices self.old)) (up.treat (room_of (slices self.old)) (left - 1) (level + 1)) (state_of (slices self.old) (Ok tt)) r) }
+    {
+        if !self.is_finished(r) {
+            return Ok(());
+        }
+        self.raise(level, left, r)
+    }
+
+    // A row freed and treated as an edge of the next level. Its edge is read first: once free, the row may be opened again.
+    #[cycle(pass_both_pass_up_raise)]
+    fn raise(&mut self, under: u32, above: u32, r: usize) -> Result<(), Halt>
+        requires { HasRow self.old.rows.now r × (under + above ≡ levels) × (0 < above) }
+        ensures lent { SameLent self.old self.new }
+        ensures treated { Treated (λ number. r < peak_in self.old.counts.now) (slices self.old) (slices self.new) result (up.treat (room_of (slices self.old)) (above - 1) (under + 1) (up.free (room_of (slices self.old)) (state_of (slices self.old) (Ok tt)) r) (up.as_edge r (look_row self.old.rows.now r))) }
+    {
+        let e = self.as_edge(r);
+        rows::free_row(self.rows, r);
+        free::give_back(self.counts, r);
+        let level = under + 1;
+        let left = above - 1;
+        if e.tail == e.head {
+            return self.close(level, e);
+        }
+        if left == 0 {
+            return Err(Halt::Overrun);
+        }
+        let Some((q, s)) = self.step(level, e)? else {
+            return Ok(());
+        };
+        self.pass_both(level, left, q, s)
+    }
 }

@@ -12,7 +12,7 @@ use borrow.Author.Tests.{lt-ltb, le-ltb, le-leb}
 use Rattle.laws.proofs.Deciding.{lt-or-le}
 use Rattle.text.specs.Numbers.{byte_at, is_digit, value_at}
 use Rattle.text.specs.Written.{decimal}
-use Rattle.text.proofs.Numerals.{value-more}
+use Rattle.text.proofs.Numerals.{value-more, value_same}
 
 -- w has up to so many digits and writes n
 pub record Writes (most : ℕ) (w : List ℕ) (n : ℕ) : Type 0 where
@@ -21,12 +21,6 @@ pub record Writes (most : ℕ) (w : List ℕ) (n : ℕ) : Type 0 where
   pub digit : (k : ℕ) → k < length w → is_digit (byte_at w k) ≡ true
   pub value : value_at w 0 (length w) ≡ n
   pub zero_alone : byte_at w 0 ≡ 48 → (n ≡ 0) × (length w ≡ 1)
-
--- the value goes by the bytes
-pub value_same : (s t : List ℕ) (i j d : ℕ) → ((k : ℕ) → k < d → byte_at s (i + k) ≡ byte_at t (j + k)) → value_at s i d ≡ value_at t j d
-unfolding value_at
-value_same s t i j zero h = refl
-value_same s t i j (suc d) h = rw (value_same s t i j d (λ k l. h k (omega arith)), h d (omega arith))
 
 a-digit : (d : ℕ) → d < 10 → is_digit (48 + d) ≡ true
 unfolding is_digit

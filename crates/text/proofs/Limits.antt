@@ -7,23 +7,23 @@ use native.Mathlib.Omega.{arith}
 use lib.IntN.{ℤ}
 use lib.ListN.{length}
 use borrow.Author.Tests.{lt-ltb, le-ltb}
-use Rattle.text.specs.declared.Reading.{Reading}
-use Rattle.text.specs.declared.Reading.TheVariants.{TooMuch}
-use Rattle.text.specs.Texts.{line_count, past_limits, too_much, reading_of, lines_read, LinesTried, Outcome}
+use Rattle.std.specs.Prelude.{Err}
+use Rattle.text.specs.declared.TextRefusal.TheVariants.{TooMuch}
+use Rattle.text.specs.Texts.{Reading, line_count, past_limits, too_much, reading_of, lines_read, LinesTried, Outcome}
 use Rattle.text.proofs.Rooms.{nothing-filled}
 use Rattle.sheet.specs.Amounts.{numbers_per_edge}
 
 module _ (s : List ℕ) where
-  nothing_read : (l : List ℤ) → too_much s (length l) ≡ true → Outcome s l l TooMuch
+  nothing_read : (l : List ℤ) → too_much s (length l) ≡ true → Outcome s l l (Err TooMuch)
   unfolding reading_of lines_read
   nothing_read l h = record { answer = rw h; filled = rw h (nothing-filled s l) }
 
-  pub many-bytes : (l : List ℤ) → 20480 < length s → Outcome s l l TooMuch
+  pub many-bytes : (l : List ℤ) → 20480 < length s → Outcome s l l (Err TooMuch)
   unfolding too_much past_limits
   many-bytes l h = nothing_read l (rw (lt-ltb 20480 (length s) h))
 
   module _ (b : length s ≤ 20480) {lines : ℕ} (n : lines ≡ line_count s) where
-    pub many-lines : (l : List ℤ) → 512 < lines → Outcome s l l TooMuch
+    pub many-lines : (l : List ℤ) → 512 < lines → Outcome s l l (Err TooMuch)
     unfolding too_much past_limits
     many-lines l h = nothing_read l (rw (le-ltb 20480 (length s) b, lt-ltb 512 (line_count s) (omega arith)))
 
@@ -32,7 +32,7 @@ module _ (s : List ℕ) where
       unfolding past_limits
       within = rw (le-ltb 20480 (length s) b, le-ltb 512 (line_count s) (omega arith))
 
-      pub little-room : (l : List ℤ) → length l < numbers_per_edge * lines → Outcome s l l TooMuch
+      pub little-room : (l : List ℤ) → length l < numbers_per_edge * lines → Outcome s l l (Err TooMuch)
       unfolding too_much
       little-room l h = nothing_read l (rw (within, lt-ltb (length l) (numbers_per_edge * line_count s) (omega arith)))
 

@@ -1,43 +1,48 @@
 -- Counting a text's lines: newlines one by one, and one line more where the last is unended.
-use mathlib.Core.Path.{◌≡◌, ap}
-use mathlib.Core.Bool.{Bool, true, false, cond, not}
-use mathlib.Core.List.{List}
-use Prim.Native.Nat.{ℕ, ◌+◌, ◌-◌, ◌≤◌}
+use mathlib.Core.Path.{◌≡◌, refl, ap, ◌∙◌}
+use mathlib.Core.Bool.{Bool, true, false, cond}
+use mathlib.Core.List.{List, [], ◌∷◌}
+use Prim.Native.Nat.{ℕ, suc, ◌+◌, ◌≤◌}
 use native.Mathlib.Omega.{arith}
 use lib.Dec.{eqb}
 use lib.ListN.{length}
-use borrow.Author.Tests.{lt-ltb, le-ltb}
+use mir.Val.{bool_byte}
+use Rattle.std.specs.Prelude.{count_by}
+use Rattle.std.proofs.lemmas.List.Recursion.{is_count_by}
 use Rattle.laws.specs.Counting.{bit, count}
-use Rattle.laws.proofs.Counting.{count-more, count-le}
+use Rattle.laws.proofs.Counting.{count_same, count-le, count-split}
 use Rattle.text.specs.Numbers.{byte_at}
 use Rattle.text.specs.Texts.{newline_at, newlines, unended, line_count}
-use Rattle.text.proofs.Bytes.{byte-here}
 
-one_more : (t : Bool) (n : ℕ) → cond t (n + 1) n ≡ n + bit t
-one_more true n = omega arith
+-- the newlines, byte by byte from the front
+one_more : (t : Bool) (n : ℕ) → bit t + n ≡ cond t (1 + n) n
+one_more true n = refl
 one_more false n = omega arith
 
-seen : (s : List ℕ) (k : ℕ) {b : ℕ} → b ≡ byte_at s (k + 0) → eqb b 10 ≡ newline_at s k
-unfolding newline_at
-seen s k e = ap (λ (c : ℕ). eqb c 10) (byte-here s k e)
+newlines-step : (b : ℕ) (s : List ℕ) → newlines (b ∷ s) ≡ cond (eqb b 10) (1 + newlines s) (newlines s)
+unfolding newlines newline_at byte_at count
+newlines-step b s =
+    let p = newline_at (b ∷ s) in
+    let q : suc (length s) ≡ 1 + length s = omega arith in
+    let first : count p 1 ≡ bit (eqb b 10) = omega arith in
+    let more = count_same (λ i. p (1 + i)) (newline_at s) (length s) (λ i l. let e : 1 + i ≡ suc i = omega arith in ap p e) in
+    ap (count p) q ∙ count-split p 1 (length s) ∙ omega (arith, first, more) ∙ one_more (eqb b 10) (newlines s)
 
-pub counted : (s : List ℕ) (k : ℕ) {b n r : ℕ} → b ≡ byte_at s (k + 0) → n ≡ count (newline_at s) k → r ≡ cond (eqb b 10) (n + 1) n
-    → r ≡ count (newline_at s) (k + 1)
-counted s k {b} {n} e h f = omega (arith, f, one_more (eqb b 10) n, ap bit (seen s k e), count-more (newline_at s) k)
+newlines-none : newlines [] ≡ 0
+unfolding newlines count
+newlines-none = refl
 
-module _ (s : List ℕ) where
-  pub nothing-unended : length s ≡ 0 → false ≡ unended s
-  unfolding unended
-  nothing-unended e = simp (le-ltb 0 (length s) (omega arith))
+pub newlines-counted : (s : List ℕ) → newlines s ≡ count_by (λ b. eqb b 10) s
+newlines-counted s = is_count_by newlines (λ b. eqb b 10) newlines-none newlines-step s
 
-  pub last-seen : {b : ℕ} → (length s ≡ 0 → ⊥) → b ≡ byte_at s (length s - 1 + 0) → not (eqb b 10) ≡ unended s
-  unfolding unended
-  last-seen h e = simp (lt-ltb 0 (length s) (omega arith), seen s (length s - 1) e)
+as-bit : (t : Bool) → bool_byte t ≡ bit t
+as-bit true = refl
+as-bit false = refl
 
 pub newlines-le : (s : List ℕ) → newlines s ≤ length s
 unfolding newlines
 newlines-le s = count-le (newline_at s) (length s)
 
-pub counted-all : (s : List ℕ) {n r : ℕ} {u : Bool} → n ≡ newlines s → u ≡ unended s → r ≡ cond u (n + 1) n → r ≡ line_count s
+pub counted-all : (s : List ℕ) {n r : ℕ} → n ≡ count_by (λ b. eqb b 10) s → r ≡ bool_byte (unended s) → n + r ≡ line_count s
 unfolding line_count
-counted-all s {n} {r} {u} e f h = omega (arith, h, one_more u n, ap bit f)
+counted-all s e f = omega (arith, e, f, newlines-counted s, as-bit (unended s))

@@ -15,8 +15,8 @@ use Rattle.text.specs.Said.{read}
 use Rattle.text.specs.Numbers.{byte_at, is_digit, minus_at, digits_at, digits_from, value_at, leading_zero, minus_zero, is_numeral, with_sign, numeral_at, number_at}
 use Rattle.text.specs.Written.{decimal, numeral, Short}
 use Rattle.text.proofs.Bytes.{digit-range}
-use Rattle.text.proofs.Numerals.{no_digit}
-use Rattle.text.proofs.Decimals.{Writes, value_same, decimal-writes}
+use Rattle.text.proofs.Numerals.{no_digit, value_same}
+use Rattle.text.proofs.Decimals.{Writes, decimal-writes}
 use Rattle.text.proofs.Spelled.{Spelled}
 
 -- digits that stand at i, and no digit after them

@@ -12,15 +12,11 @@ use lib.Seq.{ext_get_or}
 use Rattle.laws.proofs.Deciding.{lt-or-le}
 use Rattle.sheet.specs.declared.Edge.{Edge}
 use Rattle.sheet.specs.Edges.{edge_at}
-use Rattle.text.specs.declared.Number.{Number}
-use Rattle.text.specs.declared.Number.TheVariants as number
-use Rattle.text.specs.declared.Step.{Step}
-use Rattle.text.specs.declared.Step.TheVariants as step
-use Rattle.text.specs.declared.Line.{Line}
-use Rattle.text.specs.declared.Line.TheVariants as line
-use Rattle.text.specs.declared.Reading.{Reading}
-use Rattle.text.specs.Said.{Said, read, refused, number_said, step_said, line_said}
-use Rattle.text.specs.Texts.{lines_read, Filled, Outcome}
+use Rattle.std.specs.Borrow.{Bor}
+use Rattle.std.specs.Prelude.{Option, Some, None, IfSome}
+use Rattle.text.specs.declared.Cursor.{Cursor}
+use Rattle.text.specs.Said.{Said, read, refused, said, step_said, OnText}
+use Rattle.text.specs.Texts.{Reading, lines_read, Filled, Outcome}
 use Rattle.sheet.specs.Amounts.{numbers_per_edge}
 
 numbers-same : (l m : List ℤ) (n j : ℕ) → edge_at l n ≡ edge_at m n → j < 5 → get_or l (numbers_per_edge * n + j) (pos 0) ≡ get_or m (numbers_per_edge * n + j) (pos 0)
@@ -49,39 +45,27 @@ one-outcome s {before} {a} {b} x y = (
   ext_get_or (pos 0) a b (x.filled.same_length ∙ sym y.filled.same_length) (λ k l. filled-same s (lines_read s (length before)) x.filled y.filled k),
 )
 
--- the answer that says this
-told-number : Said ℤ → Number
-told-number (read z i) = number.Value z (record { at = i })
-told-number (refused n) = number.Malformed
+-- the answer on a text that says this
+told : {A : Type 0} → Bor (List ℕ) → Said A → Option (A × Cursor)
+told text (read a i) = Some (a, record { text = text; at = i })
+told text (refused n) = None
 
-told-step : Said Unit → Step
-told-step (read u i) = step.On (record { at = i })
-told-step (refused n) = step.Malformed
+step-told : Bor (List ℕ) → Said Unit → Option Cursor
+step-told text (read u i) = Some (record { text = text; at = i })
+step-told text (refused n) = None
 
-told_line : Said Edge → Line
-told_line (read e i) = line.Edge e (record { at = i })
-told_line (refused n) = line.Malformed
+is-told : {A : Type 0} (text : Bor (List ℕ)) (r : Option (A × Cursor)) → OnText text r → r ≡ told text (said r)
+unfolding told
+is-told text (Some (a, c)) e = rw (← e)
+is-told text None e = refl
 
-number-told : (r : Number) → r ≡ told-number (number_said r)
-unfolding told-number
-number-told (number.Value z c) = refl
-number-told number.Malformed = refl
+step-is-told : (text : Bor (List ℕ)) (r : Option Cursor) → IfSome r (λ c. c.text ≡ text) → r ≡ step-told text (step_said r)
+unfolding step-told
+step-is-told text (Some c) e = rw (← e)
+step-is-told text None e = refl
 
-step-told : (r : Step) → r ≡ told-step (step_said r)
-unfolding told-step
-step-told (step.On c) = refl
-step-told step.Malformed = refl
+pub one-answer : {A : Type 0} (text : Bor (List ℕ)) (p q : Option (A × Cursor)) → OnText text p → OnText text q → said p ≡ said q → p ≡ q
+one-answer text p q f g e = is-told text p f ∙ ap (told text) e ∙ sym (is-told text q g)
 
-line-told : (r : Line) → r ≡ told_line (line_said r)
-unfolding told_line
-line-told (line.Edge e c) = refl
-line-told line.Malformed = refl
-
-pub one_number : (p q : Number) → number_said p ≡ number_said q → p ≡ q
-one_number p q e = number-told p ∙ ap told-number e ∙ sym (number-told q)
-
-pub one-step : (p q : Step) → step_said p ≡ step_said q → p ≡ q
-one-step p q e = step-told p ∙ ap told-step e ∙ sym (step-told q)
-
-pub one_line : (p q : Line) → line_said p ≡ line_said q → p ≡ q
-one_line p q e = line-told p ∙ ap told_line e ∙ sym (line-told q)
+pub one-step : (text : Bor (List ℕ)) (p q : Option Cursor) → IfSome p (λ c. c.text ≡ text) → IfSome q (λ c. c.text ≡ text) → step_said p ≡ step_said q → p ≡ q
+one-step text p q f g e = step-is-told text p f ∙ ap (step-told text) e ∙ sym (step-is-told text q g)

@@ -11,7 +11,7 @@ use lib.ListN.{get_or, length, length-append}
 use borrow.Author.Tests.{eq-eqb, le-ltb}
 use Rattle.laws.proofs.Searching.{NoneBelow, found_none}
 use Rattle.sheet.specs.declared.Edge.{Edge}
-use Rattle.text.specs.declared.Reading.TheVariants.{Edges}
+use Rattle.std.specs.Prelude.{Ok}
 use Rattle.text.specs.Said.{read, and_then}
 use Rattle.text.specs.Numbers.{byte_at, is_digit}
 use Rattle.text.specs.Lines.{past_at, field_at, space, newline, line_at, is_malformed, edge_in, edge_of}
@@ -140,7 +140,7 @@ module _ (es : List Edge) (l : AllShort es) where
     le-ltb room (numbers_per_edge * line_count (written es)) (omega (arith, as-many-lines)),
   )
 
-  pub written_read : (room : ℕ) → length es ≤ 512 → length (written es) ≤ 20480 → numbers_per_edge * length es ≤ room → reading_of (written es) room ≡ Edges (length es)
+  pub written_read : (room : ℕ) → length es ≤ 512 → length (written es) ≤ 20480 → numbers_per_edge * length es ≤ room → reading_of (written es) room ≡ Ok (length es)
   unfolding reading_of answer_of first_malformed
   written_read room few short fits =
       let q : length es ≡ first_malformed (written es) (length es) = found_none _ none-malformed (omega arith) in

@@ -1,11 +1,14 @@
 -- A room for edges, line by line: an edge put at its place stands there, and nothing else has changed.
 use mathlib.Core.Path.{◌≡◌, refl, sym, ◌∙◌}
-use mathlib.Core.List.{List}
+use mathlib.Core.List.{List, [], ◌∷◌, append_assoc}
 use mathlib.Core.Logic.{⊎_elim}
-use Prim.Native.Nat.{ℕ, ◌+◌, ◌*◌, ◌≤◌, ◌<◌}
+use Prim.Native.Nat.{ℕ, suc, ◌+◌, ◌*◌, ◌≤◌, ◌<◌}
 use native.Mathlib.Omega.{arith}
 use lib.IntN.{ℤ, pos}
-use lib.ListN.{get_or, length, set, length-set}
+use lib.ListN.{get_or, length, take, drop, set, length-set}
+use borrow.Rule.Slice.PartMut.{put_mid}
+use Rattle.std.proofs.lemmas.Slice.{put_mid-paste}
+use Rattle.std.proofs.lemmas.List.Edits.{paste_all, sets-eq}
 use lib.Seq.{get_or-set_same, get_or-set_other}
 use Rattle.laws.proofs.Deciding.{lt-or-le}
 use Rattle.sheet.specs.declared.Edge.{Edge}
@@ -16,6 +19,22 @@ use Rattle.sheet.specs.Amounts.{numbers_per_edge}
 
 placed-length : (l : List ℤ) (n : ℕ) (e : Edge) → length (placed l n e) ≡ length l
 placed-length l n e = simp length-set
+
+-- an edge's five numbers written over those at its place
+pub five-placed : (l : List ℤ) (n k : ℕ) (e : Edge) {w : List ℤ} → 5 * n + 4 < length l → k ≡ 5 → w ≡ e.tail.x ∷ e.tail.y ∷ e.head.x ∷ e.head.y ∷ e.film ∷ []
+    → put_mid (5 * n) k l w ≡ placed l n e
+five-placed l n k e {w} h q f =
+    let i = 5 * n in
+    let v = e.tail.x ∷ e.tail.y ∷ e.head.x ∷ e.head.y ∷ e.film ∷ [] in
+    let one : suc i ≡ i + 1 = omega arith in
+    let two : suc (suc i) ≡ i + 2 = omega arith in
+    let three : suc (suc (suc i)) ≡ i + 3 = omega arith in
+    let four : suc (suc (suc (suc i))) ≡ i + 4 = omega arith in
+    put_mid-paste i k l w v 5 f (sym q) refl
+    ∙ paste_all l i v 5 refl
+    ∙ sym (append_assoc (take i l) v (drop (i + 5) l))
+    ∙ sym (sets-eq v l i (omega arith))
+    ∙ rw (← one, ← two, ← three, ← four)
 
 -- away from the edge's place nothing changes
 placed-other : (l : List ℤ) (n : ℕ) (e : Edge) (k : ℕ) → ((j : ℕ) → j < 5 → k ≡ numbers_per_edge * n + j → ⊥) → get_or (placed l n e) k (pos 0) ≡ get_or l k (pos 0)

@@ -15,7 +15,7 @@ use Rattle.laws.proofs.Counting.{count-more, count_none, count-from, count-grows
 use Rattle.laws.proofs.First.{first-least}
 use Rattle.laws.proofs.Searching.{NoneBelow}
 use Rattle.sheet.specs.declared.Edge.{Edge}
-use Rattle.text.specs.declared.Reading.TheVariants.{Edges}
+use Rattle.std.specs.Prelude.{Ok}
 use Rattle.text.specs.Said.{Said, read, refused}
 use Rattle.text.specs.Numbers.{byte_at}
 use Rattle.text.specs.Lines.{is_malformed}
@@ -135,7 +135,7 @@ module _ (s : List ℕ) where
         end = all_lines h;
       }
 
-  pub to_the_end : (size n : ℕ) → reading_of s size ≡ Edges n → ReadWhole size n
+  pub to_the_end : (size n : ℕ) → reading_of s size ≡ Ok n → ReadWhole size n
   unfolding reading_of answer_of
   to_the_end size n h = ⊎_elim
       (λ t. let z : ◌≡◌ {A = ℕ} 0 1 = cc (rw t at h) in absurd (omega arith))

@@ -15,7 +15,7 @@ use Rattle.text.specs.Written.{numeral, Short, with_byte, written_line, written,
 use Rattle.laws.proofs.Searching.{NoneBelow}
 use Rattle.sheet.specs.declared.Edge.{Edge}
 use Rattle.text.specs.Said.{read}
-use Rattle.text.specs.declared.Reading.TheVariants.{Edges}
+use Rattle.std.specs.Prelude.{Ok}
 use Rattle.text.specs.Lines.{field_at, space, newline, line_at, is_malformed, edge_in}
 use Rattle.text.specs.Texts.{line_start, line_of, reading_of}
 use Rattle.text.proofs.Parts.{field-parts, line-parts}
@@ -129,7 +129,7 @@ unfolding lines_of line_start written
 front-written s zero h = record { as_many = refl; short = λ d k l. absurd (omega arith); there = λ k l. absurd (omega arith); past = refl }
 front-written s (suc n) h = line-more s n (front-written s n (λ k l. h k (omega arith))) (h n (omega arith))
 
-pub written-so : (s : List ℕ) (room n : ℕ) → reading_of s room ≡ Edges n
+pub written-so : (s : List ℕ) (room n : ℕ) → reading_of s room ≡ Ok n
     → (es : List Edge) × (length es ≡ n) × (n ≤ 512) × (length s ≤ 20480) × (numbers_per_edge * n ≤ room) × AllShort es × (written es ≡ s)
 unfolding byte_at
 written-so s room n h =

@@ -1,7 +1,7 @@
 -- A number in a text: an optional minus, then all the digits that stand there, 1 to 7 of them, with no zero in front of other digits and no minus in
 -- front of zero. A text is the list of its bytes. Each definition is a test or a function that computes, and the answers of the cursor's reading methods are
 -- proved to say it. "01 Program 2" in a comment names the second sentence under "The program and the host".
-use Rattle.std.specs.Prelude.{ℕ, zero, suc, ◌+◌, ◌-◌, ◌*◌, Bool, cond, not, ◌&&◌, List, eqb, ltb, leb, ℤ, pos, neg_ℤ, get_or}
+use Rattle.std.specs.Prelude.{◌≡◌, ℕ, zero, suc, ◌+◌, ◌-◌, ◌*◌, ◌<◌, Bool, true, cond, not, ◌&&◌, List, eqb, ltb, leb, ℤ, pos, neg_ℤ, get_or, length}
 use Rattle.laws.specs.Counting.{first}
 use Rattle.text.specs.Said.{Said, read, refused, malformed}
 
@@ -24,6 +24,15 @@ digits_at s i = cond (minus_at s i) (i + 1) i
 -- how many digits stand from i on, up to the first byte that is none; 8 where there are more than 7
 unfoldable pub digits_from : List ℕ → ℕ → ℕ
 digits_from s i = first (λ k. not (is_digit (byte_at s (i + k)))) 8
+
+-- bytes that are all digits
+abbrev pub AllDigits : List ℕ → Type 0
+AllDigits w = (k : ℕ) → k < length w → is_digit (byte_at w k) ≡ true
+
+-- the digits that stand from i on, up to 8 of them
+pub record Digits (s : List ℕ) (i : ℕ) (w : List ℕ) : Type 0 where
+  pub count : length w ≡ digits_from s i
+  pub bytes : (k : ℕ) → k < length w → byte_at w k ≡ byte_at s (i + k)
 
 -- the number that d digits from i on write in decimal
 unfoldable pub value_at : List ℕ → ℕ → ℕ → ℕ

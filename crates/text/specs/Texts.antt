@@ -1,15 +1,19 @@
 -- A whole text: its lines to the very end, the limits, the room, and what reading it answers and writes. A line begins at the front or after a newline,
 -- and a last line that no newline ends is a line too. The first malformed line is the first number below the number of lines that passes a test.
-use Rattle.std.specs.Prelude.{ℕ, zero, suc, ◌+◌, ◌-◌, ◌*◌, ◌≤◌, ◌<◌, ◌≡◌, Bool, cond, not, ◌&&◌, ◌||◌, List, eqb, ltb, ℤ, pos, get_or, length, set}
+use Rattle.std.specs.Prelude.{ℕ, zero, suc, ◌+◌, ◌-◌, ◌*◌, ◌≤◌, ◌<◌, ◌≡◌, Bool, cond, not, ◌&&◌, ◌||◌, List, eqb, ltb, ℤ, pos, get_or, length, set, Result, Ok, Err}
 use Rattle.laws.specs.Counting.{bit, count, first}
 use Rattle.sheet.specs.declared.Edge.{Edge}
 use Rattle.sheet.specs.Edges.{edge_at}
-use Rattle.text.specs.declared.Reading.{Reading}
-use Rattle.text.specs.declared.Reading.TheVariants.{TooMuch, Malformed, Edges}
+use Rattle.text.specs.declared.TextRefusal.{TextRefusal}
+use Rattle.text.specs.declared.TextRefusal.TheVariants.{TooMuch, Malformed}
 use Rattle.text.specs.Said.{Said, malformed}
 use Rattle.text.specs.Numbers.{byte_at}
 use Rattle.text.specs.Lines.{newline, line_at, is_malformed, edge_in}
 use Rattle.sheet.specs.Amounts.{numbers_per_edge}
+
+-- what reading answers: how many edges the text holds, or why it is refused
+abbrev pub Reading : Type 0
+Reading = Result ℕ TextRefusal
 
 unfoldable pub newline_at : List ℕ → ℕ → Bool
 newline_at s i = eqb (byte_at s i) newline
@@ -50,22 +54,29 @@ too_much s room = past_limits s || ltb room (numbers_per_edge * line_count s)
 
 -- what so many lines answer, m of them well formed in front of the first malformed one: lines are numbered from 1
 unfoldable pub answer_of : ℕ → ℕ → Reading
-answer_of lines m = cond (ltb m lines) (Malformed (m + 1)) (Edges lines)
+answer_of lines m = cond (ltb m lines) (Err (Malformed (m + 1))) (Ok lines)
 
 -- 01 Program 4: what a text answers where so much room is lent; the limits and the room are tried first
 unfoldable pub reading_of : List ℕ → ℕ → Reading
-reading_of s room = cond (too_much s room) TooMuch (answer_of (line_count s) (first_malformed s (line_count s)))
+reading_of s room = cond (too_much s room) (Err TooMuch) (answer_of (line_count s) (first_malformed s (line_count s)))
 
--- the number and the place of each refusal; both 0 where the text is read
+-- the number and the place of each refusal
+abbrev pub text_number_of : TextRefusal → ℕ
+text_number_of TooMuch = 2
+text_number_of (Malformed line) = malformed
+
+abbrev pub text_place_of : TextRefusal → ℕ
+text_place_of TooMuch = 0
+text_place_of (Malformed line) = line
+
+-- both 0 where the text is read
 abbrev pub reading_number : Reading → ℕ
-reading_number TooMuch = 2
-reading_number (Malformed line) = malformed
-reading_number (Edges n) = 0
+reading_number (Err r) = text_number_of r
+reading_number (Ok n) = 0
 
 abbrev pub reading_place : Reading → ℕ
-reading_place TooMuch = 0
-reading_place (Malformed line) = line
-reading_place (Edges n) = 0
+reading_place (Err r) = text_place_of r
+reading_place (Ok n) = 0
 
 -- how many lines are read: those in front of the first malformed one, none of a text that is too much
 unfoldable pub lines_read : List ℕ → ℕ → ℕ

@@ -1,72 +1,49 @@
 // Reading the program's standard input: a number, a line, a whole text, as functions on a slice of bytes.
-// A cursor is a place in the text, by value: each reading hands on the cursor that stands after what it read.
+// A cursor is a place in a text, by value: each reading method answers what stands there with the cursor after it, or None where it is malformed.
 // What each answer is, is defined in specs/.
 #![tactic(auto)]
 
-ghost use Rattle.std.specs.Prelude.{◌≡◌, ◌+◌, ◌*◌, ◌-◌, ◌<◌, ◌≤◌, length};
-ghost use Rattle.text.specs.Said.{number_said, step_said, line_said};
-ghost use Rattle.text.specs.Numbers.{byte_at, is_digit, minus_at, digits_at, digits_from, value_at, is_numeral, with_sign, number_at};
+ghost use Rattle.std.specs.Prelude.{◌≡◌, ◌==◌, ◌+◌, ◌*◌, ◌<◌, ◌≤◌, length, drop, take, take_while, unwrap_or, IfSome, count_by};
+ghost use Rattle.std.specs.Char.{is_ascii_digit};
+ghost use Rattle.text.specs.Said.{said, step_said, OnText};
+ghost use Rattle.text.specs.Numbers.{byte_at, AllDigits, Digits, minus_at, digits_at, value_at, is_numeral, with_sign, number_at};
 ghost use Rattle.text.specs.Lines.{past_at, field_at, line_at};
-ghost use Rattle.text.specs.Texts.{reading_number, reading_place, newlines, unended, line_count, placed, LinesTried, Outcome};
+ghost use Rattle.text.specs.Texts.{text_number_of, text_place_of, unended, line_count, placed, LinesTried, Outcome};
 ghost use Rattle.sheet.specs.Amounts.{numbers_per_edge};
 
-use sheet::Point;
+use sheet::{Edge, Point};
 
-// A place in the text.
+// A place in a text.
 #[derive(Clone, Copy)]
-pub struct Cursor {
+pub struct Cursor<'a> {
+    pub text: &'a [u8],
     pub at: usize,
 }
 
-// A number with the cursor after it.
-#[derive(Clone, Copy)]
-pub enum Number {
-    Value(i32, Cursor),
-    Malformed,
-}
-
-// The cursor after one byte that must stand.
-#[derive(Clone, Copy)]
-pub enum Step {
-    On(Cursor),
-    Malformed,
-}
-
-// A line's edge with the cursor after the line.
-#[derive(Clone, Copy)]
-pub enum Line {
-    Edge(sheet::Edge, Cursor),
-    Malformed,
-}
-
-// What a text holds: how many edges, or why it is refused. A malformed line has its number, from 1.
-#[derive(Clone, Copy)]
-pub enum Reading {
+// Why a text is refused. A malformed line has its number, from 1.
+#[derive(Clone, Copy, Debug, PartialEq, Eq)]
+pub enum TextRefusal {
     TooMuch,
     Malformed(u32),
-    Edges(usize),
 }
 
-impl Reading {
-    // The number of the refusal, 0 where the text was read.
+impl TextRefusal {
     pub fn number(self) -> u32
-        ensures { result ≡ reading_number self }
+        ensures { result ≡ text_number_of self }
     {
         match self {
-            Reading::TooMuch => 2,
-            Reading::Malformed(_) => 15,
-            Reading::Edges(_) => 0,
+            TextRefusal::TooMuch => 2,
+            TextRefusal::Malformed(_) => 15,
         }
     }
 
-    // The place of the refusal: a malformed line's number.
+    // A malformed line's number.
     pub fn place(self) -> u32
-        ensures { result ≡ reading_place self }
+        ensures { result ≡ text_place_of self }
     {
         match self {
-            Reading::TooMuch => 0,
-            Reading::Malformed(line) => line,
-            Reading::Edges(_) => 0,
+            TextRefusal::TooMuch => 0,
+            TextRefusal::Malformed(line) => line,
         }
     }
 }
@@ -76,174 +53,140 @@ pub const MOST_BYTES: usize = 20_480;
 
 pub const MOST_LINES: usize = 512;
 
-// The byte that stands k places after a place, 256 past the end.
-fn byte_at(text: &[u8], at: usize, k: usize) -> u32
-    ensures { result ≡ byte_at text.now (at + k) }
+// How many digits stand in front, 8 where there are more than 7.
+fn digits_in_front(bytes: &[u8]) -> usize
+    ensures { result ≡ length (take_while is_ascii_digit (take 8 bytes.now)) }
 {
-    if text.len() <= at {
-        return 256;
-    }
-    if text.len() - at <= k {
-        return 256;
-    }
-    wide(text[at + k])
+    bytes
+        .iter()
+        .take(8)
+        .take_while(|byte| byte.is_ascii_digit())
+        .count()
 }
 
-fn wide(byte: u8) -> u32
-    ensures { result ≡ byte }
+// The number that up to seven digits write. By hand, since `parse` takes a `&str`: the digits would be looked at as UTF-8 first.
+fn value_of(digits: &[u8]) -> u32
+    requires few { length digits.now ≤ 7 }
+    requires digits { AllDigits digits.now }
+    ensures { result ≡ value_at digits.now 0 (length digits.now) }
 {
-    byte as u32
-}
-
-fn is_digit(byte: u32) -> bool
-    ensures { result ≡ is_digit byte }
-{
-    48 <= byte && byte < 58
-}
-
-// How many digits stand from a place on, 8 where there are more than 7.
-fn digits_from(text: &[u8], at: usize) -> usize
-    ensures { result ≡ digits_from text.now at }
-{
-    let mut k = 0;
-    while k < 8 {
-        if !is_digit(byte_at(text, at, k)) {
-            return k;
-        }
-        k += 1;
-    }
-    8
-}
-
-// What a digit counts.
-fn figure(byte: u32) -> u32
-    ensures { result ≡ byte - 48 }
-{
-    if byte < 48 {
-        return 0;
-    }
-    byte - 48
-}
-
-// The number that the first digits from a place on write.
-fn value_at(text: &[u8], at: usize, digits: usize) -> u32
-    requires { (digits ≤ 7) × (digits ≤ digits_from text.now at) }
-    ensures { result ≡ value_at text.now at digits }
-{
-    let mut value: u32 = 0;
-    let mut k = 0;
-    while k < digits {
-        value = 10 * value + figure(byte_at(text, at, k));
-        k += 1;
+    let mut value = 0;
+    for digit in digits {
+        value = 10 * value + u32::from(*digit - b'0');
     }
     value
 }
 
-// Whether digits write a number, after a minus or not: their first byte and how many they are.
-fn is_numeral(minus: bool, lead: u32, digits: usize) -> bool
-    ensures { result ≡ is_numeral minus lead digits }
+// Whether digits write a number, after a minus or not.
+fn is_numeral(minus: bool, digits: &[u8]) -> bool
+    ensures { result ≡ is_numeral minus (byte_at digits.now 0) (length digits.now) }
 {
-    if digits < 1 {
+    if digits.is_empty() {
         return false;
     }
-    if 7 < digits {
+    if 7 < digits.len() {
         return false;
     }
-    if lead != 48 {
+    if digits[0] != b'0' {
         return true;
     }
-    if 1 < digits {
+    if 1 < digits.len() {
         return false;
     }
     !minus
 }
 
-// A number with its sign.
+// A number with its sign. Casts, since it is proved that they lose nothing, and `try_from` would test it.
 fn with_sign(minus: bool, value: u32) -> i32
     requires { value < 2147483648 }
     ensures { result ≡ with_sign minus value }
 {
-    if minus {
-        return 0 - (value as i32);
-    }
-    value as i32
+    if minus { -(value as i32) } else { value as i32 }
 }
 
-fn minus_at(text: &[u8], at: usize) -> bool
-    ensures { result ≡ minus_at text.now at }
-{
-    byte_at(text, at, 0) == 45
-}
-
-// The place of the first digit: after the minus, where one stands.
-fn digits_at(text: &[u8], at: usize) -> usize
-    ensures { result ≡ digits_at text.now at }
-{
-    if minus_at(text, at) {
-        return at + 1;
-    }
-    at
-}
-
-impl Cursor {
-    // The number that stands here.
-    pub fn number(self, text: &[u8]) -> Number
-        ensures { number_said result ≡ number_at text.now self.at }
+impl<'a> Cursor<'a> {
+    // The text from here on.
+    fn rest(self) -> &'a [u8]
+        ensures { result.now ≡ drop self.entry.at self.entry.text.now }
     {
-        let at = self.at;
-        let minus = minus_at(text, at);
-        let start = digits_at(text, at);
-        let digits = digits_from(text, start);
-        if !is_numeral(minus, byte_at(text, start, 0), digits) {
-            return Number::Malformed;
+        self.text.get(self.at..).unwrap_or(&[])
+    }
+
+    // The byte that stands here.
+    fn byte(self) -> Option<u8>
+        ensures { unwrap_or result 256 ≡ byte_at self.entry.text.now self.entry.at }
+    {
+        self.text.get(self.at).copied()
+    }
+
+    // The digits that stand here, up to 8 of them.
+    fn digits(self) -> &'a [u8]
+        ensures { Digits self.entry.text.now self.entry.at result.now }
+    {
+        let rest = self.rest();
+        let count = digits_in_front(rest);
+        &rest[..count]
+    }
+
+    // Whether a minus stands here, and where the digits begin.
+    fn sign(self) -> (bool, Cursor<'a>)
+        ensures minus { result.0 ≡ minus_at self.entry.text.now self.entry.at }
+        ensures digits { result.1.at ≡ digits_at self.entry.text.now self.entry.at }
+        ensures text { result.1.text ≡ self.entry.text }
+    {
+        match self.past(b'-') {
+            Some(next) => (true, next),
+            None => (false, self),
         }
-        let value = value_at(text, start, digits);
-        Number::Value(with_sign(minus, value), Cursor { at: start + digits })
+    }
+
+    // The number that stands here.
+    pub fn number(self) -> Option<(i32, Cursor<'a>)>
+        ensures says { said result ≡ number_at self.entry.text.now self.entry.at }
+        ensures text { OnText self.entry.text result }
+    {
+        let (minus, start) = self.sign();
+        let digits = start.digits();
+        if !is_numeral(minus, digits) {
+            return None;
+        }
+        let number = with_sign(minus, value_of(digits));
+        let at = start.at + digits.len();
+        Some((number, Cursor { at, ..self }))
     }
 
     // One byte that must stand here.
-    pub fn past(self, text: &[u8], byte: u8) -> Step
-        ensures { step_said result ≡ past_at text.now self.at byte }
+    pub fn past(self, byte: u8) -> Option<Cursor<'a>>
+        ensures says { step_said result ≡ past_at self.entry.text.now self.entry.at byte }
+        ensures text { IfSome result (λ next. next.text ≡ self.entry.text) }
     {
-        let at = self.at;
-        if byte_at(text, at, 0) == wide(byte) {
-            return Step::On(Cursor { at: at + 1 });
+        if self.byte()? != byte {
+            return None;
         }
-        Step::Malformed
+        let at = self.at + 1;
+        Some(Cursor { at, ..self })
     }
 
     // A number and the byte that must stand after it.
-    fn field(self, text: &[u8], after: u8) -> Number
-        ensures { number_said result ≡ field_at text.now after self.at }
+    fn field(self, after: u8) -> Option<(i32, Cursor<'a>)>
+        ensures says { said result ≡ field_at self.entry.text.now after self.entry.at }
+        ensures text { OnText self.entry.text result }
     {
-        let Number::Value(value, end) = self.number(text) else {
-            return Number::Malformed;
-        };
-        let Step::On(next) = end.past(text, after) else {
-            return Number::Malformed;
-        };
-        Number::Value(value, next)
+        let (value, end) = self.number()?;
+        let next = end.past(after)?;
+        Some((value, next))
     }
 
     // The line that begins here: tail x, tail y, head x, head y, film.
-    pub fn line(self, text: &[u8]) -> Line
-        ensures { line_said result ≡ line_at text.now self.at }
+    pub fn line(self) -> Option<(Edge, Cursor<'a>)>
+        ensures says { said result ≡ line_at self.entry.text.now self.entry.at }
+        ensures text { OnText self.entry.text result }
     {
-        let Number::Value(tail_x, second) = self.field(text, b' ') else {
-            return Line::Malformed;
-        };
-        let Number::Value(tail_y, third) = second.field(text, b' ') else {
-            return Line::Malformed;
-        };
-        let Number::Value(head_x, fourth) = third.field(text, b' ') else {
-            return Line::Malformed;
-        };
-        let Number::Value(head_y, fifth) = fourth.field(text, b' ') else {
-            return Line::Malformed;
-        };
-        let Number::Value(film, next) = fifth.field(text, b'\n') else {
-            return Line::Malformed;
-        };
+        let (tail_x, second) = self.field(b' ')?;
+        let (tail_y, third) = second.field(b' ')?;
+        let (head_x, fourth) = third.field(b' ')?;
+        let (head_y, fifth) = fourth.field(b' ')?;
+        let (film, next) = fifth.field(b'\n')?;
         let tail = Point {
             x: tail_x,
             y: tail_y,
@@ -252,19 +195,17 @@ impl Cursor {
             x: head_x,
             y: head_y,
         };
-        Line::Edge(sheet::Edge { tail, head, film }, next)
+        Some((Edge { tail, head, film }, next))
     }
 }
 
 // How many newlines stand in a text.
 fn newline_count(text: &[u8]) -> usize
-    ensures { result ≡ newlines text.now }
+    ensures { result ≡ count_by (λ b. b == 10) text.now }
 {
     let mut n = 0;
-    let mut k = 0;
-    while k < text.len() {
-        n = laws::choose(byte_at(text, k, 0) == 10, n + 1, n);
-        k += 1;
+    for byte in text {
+        n += usize::from(*byte == b'\n');
     }
     n
 }
@@ -273,11 +214,7 @@ fn newline_count(text: &[u8]) -> usize
 fn is_unended(text: &[u8]) -> bool
     ensures { result ≡ unended text.now }
 {
-    let n = text.len();
-    if n == 0 {
-        return false;
-    }
-    byte_at(text, n - 1, 0) != 10
+    text.last().is_some_and(|byte| *byte != b'\n')
 }
 
 // How many lines a text has, a last one without a newline among them.
@@ -285,61 +222,47 @@ fn line_count(text: &[u8]) -> usize
     requires { length text.now ≤ 20480 }
     ensures { result ≡ line_count text.now }
 {
-    let n = newline_count(text);
-    laws::choose(is_unended(text), n + 1, n)
+    newline_count(text) + usize::from(is_unended(text))
 }
 
 // An edge at its place in a list.
-fn put(edges: &mut [i32], place: usize, edge: sheet::Edge)
+fn put(edges: &mut [i32], place: usize, edge: Edge)
     requires { numbers_per_edge * place + 4 < length edges.old }
     ensures { edges.new ≡ placed edges.old place edge }
 {
-    let first = sheet::Edge::NUMBERS * place;
-    let tail = edge.tail;
-    let head = edge.head;
-    let tail_x = tail.x;
-    edges[first] = tail_x;
-    let tail_y = tail.y;
-    edges[first + 1] = tail_y;
-    let head_x = head.x;
-    edges[first + 2] = head_x;
-    let head_y = head.y;
-    edges[first + 3] = head_y;
-    let film = edge.film;
-    edges[first + 4] = film;
+    let first = Edge::NUMBERS * place;
+    let Edge { tail, head, film } = edge;
+    edges[first..first + Edge::NUMBERS].copy_from_slice(&[tail.x, tail.y, head.x, head.y, film]);
 }
 
-// Line by line, to the first that is malformed.
-fn read_lines(text: &[u8], lines: usize, edges: &mut [i32]) -> Reading
+// Line by line, to the first that is malformed. A line's number is cast, since there are so few.
+fn read_lines(text: &[u8], lines: usize, edges: &mut [i32]) -> Result<usize, TextRefusal>
     requires { (lines ≤ 512) × (numbers_per_edge * lines ≤ length edges.old) }
     ensures { LinesTried text.now lines edges.old edges.new result }
 {
-    let mut cursor = Cursor { at: 0 };
-    let mut n = 0;
-    while n < lines {
-        let Line::Edge(edge, next) = cursor.line(text) else {
-            return Reading::Malformed((n + 1) as u32);
-        };
+    let mut cursor = Cursor { text, at: 0 };
+    for n in 0..lines {
+        let malformed = TextRefusal::Malformed((n + 1) as u32);
+        let (edge, next) = cursor.line().ok_or(malformed)?;
         put(edges, n, edge);
         cursor = next;
-        n += 1;
     }
-    Reading::Edges(lines)
+    Ok(lines)
 }
 
 // A whole text: the limits and the room first, then the lines.
-pub fn read(text: &[u8], edges: &mut [i32]) -> Reading
+pub fn read(text: &[u8], edges: &mut [i32]) -> Result<usize, TextRefusal>
     ensures { Outcome text.now edges.old edges.new result }
 {
     if MOST_BYTES < text.len() {
-        return Reading::TooMuch;
+        return Err(TextRefusal::TooMuch);
     }
     let lines = line_count(text);
     if MOST_LINES < lines {
-        return Reading::TooMuch;
+        return Err(TextRefusal::TooMuch);
     }
-    if edges.len() < sheet::Edge::NUMBERS * lines {
-        return Reading::TooMuch;
+    if edges.len() < Edge::NUMBERS * lines {
+        return Err(TextRefusal::TooMuch);
     }
     read_lines(text, lines, edges)
 }

@@ -1,10 +1,10 @@
 -- What is accepted. The order is the turn list, since the keys rise strictly; and the last key has the largest polygon number.
-use mathlib.Core.Path.{◌≡◌, sym, ap, ◌∙◌}
+use mathlib.Core.Path.{◌≡◌, refl, sym, ap, ◌∙◌}
 use mathlib.Core.List.{List}
 use mathlib.Core.Logic.{⊎_elim}
 use Prim.Native.Nat.{ℕ, ◌-◌, ◌/◌, ◌≤◌, ◌<◌}
 use native.Mathlib.Omega.{arith}
-use lib.ListN.{length, get_or, replicate, length-replicate, get_or-replicate}
+use lib.ListN.{length, get_or}
 use borrow.Author.Tests.{eq-eqb, ne_eqb}
 use Rattle.laws.specs.Counting.{largest}
 use Rattle.laws.proofs.Deciding.{eq-or-ne}
@@ -12,12 +12,8 @@ use Rattle.laws.proofs.Largest.{largest-is}
 use Rattle.sheet.specs.TurnList.{NumberLists, TurnList}
 use Rattle.turns.specs.Keys.{key_of, Keyed}
 use Rattle.turns.specs.Answers.{last_polygon}
-use Rattle.turns.specs.Order.{Blank, Ordered}
+use Rattle.turns.specs.Order.{Ordered}
 use Rattle.turns.proofs.Keys.{key-before}
-
--- an order in which no edge was met
-pub blank-new : (n m : ℕ) → n ≤ m → Blank (replicate m m) n
-blank-new n m l = record { room = rw (length-replicate {A = ℕ} m m) l; nobody = λ p h. rw (get_or-replicate {A = ℕ} m p m 0 (omega arith)) l }
 
 pub ordered-turns : {v : NumberLists} {keys order : List ℕ} →
     Keyed v keys →
@@ -36,9 +32,9 @@ pub last_none : (keys : List ℕ) (n : ℕ) → n ≡ 0 → 0 ≡ last_polygon k
 unfolding last_polygon
 last_none keys n e = rw (eq-eqb n 0 e)
 
-pub last_some : (keys : List ℕ) (n : ℕ) → (n ≡ 0 → ⊥) → get_or keys (n - 1) 0 / 4294967296 ≡ last_polygon keys n
+pub last_some : (keys : List ℕ) (n : ℕ) {word : ℕ} → 0 < n → word ≡ get_or keys (n - 1) 0 → word / 4294967296 ≡ last_polygon keys n
 unfolding last_polygon
-last_some keys n e = rw (ne_eqb n 0 e)
+last_some keys n pos e = rw (e, ne_eqb n 0 (λ z. omega arith))
 
 -- the polygon of a key, and of one that is not above it
 key-polygon : (p s k : ℕ) → s < 4294967296 → k ≡ key_of p s → k / 4294967296 ≡ p
@@ -54,7 +50,7 @@ module _ {v : NumberLists} {keys : List ℕ} (K : Keyed v keys) where
   unfolding largest
   last-largest = ⊎_elim
       (λ e. sym (last_none keys v.edges e) ∙ ap (largest v.polygon) (sym e))
-      (λ ne. sym (last_some keys v.edges ne) ∙ some ne)
+      (λ ne. sym (last_some keys v.edges (omega arith) refl) ∙ some ne)
       (eq-or-ne v.edges 0)
     where
       some : (v.edges ≡ 0 → ⊥) → get_or keys (v.edges - 1) 0 / 4294967296 ≡ largest v.polygon v.edges

@@ -3,6 +3,7 @@ use mathlib.Core.Path.{◌≡◌, sym, ap, ◌∙◌, subst}
 use mathlib.Core.Bool.{Bool, true, false}
 use mathlib.Core.List.{List}
 use Prim.Native.Nat.{ℕ, ◌≤◌, ◌<◌}
+use native.Mathlib.Omega.{arith}
 use lib.Dec.{eqb}
 use lib.ListN.{length}
 use borrow.Author.Tests.{lt-ltb, le-ltb, ltb-false, eqb-true, not-false}
@@ -10,8 +11,7 @@ use Rattle.laws.specs.Counting.{first, largest}
 use Rattle.laws.proofs.Deciding.{neither-true, both_true}
 use Rattle.sheet.specs.declared.TurnRefusal.{TurnRefusal}
 use Rattle.sheet.specs.declared.TurnRefusal.TheVariants.{TurnLengths, NoPolygon, PairRepeated, Gap}
-use Rattle.sheet.specs.declared.TurnAnswer.{TurnAnswer}
-use Rattle.sheet.specs.declared.TurnAnswer.TheVariants.{Accepted, Refused}
+use Rattle.std.specs.Prelude.{Result, Ok, Err}
 use Rattle.sheet.specs.TurnList.{NumberLists, number_lists, no_polygon, pair_repeated, gap, refuse_first_turn, lengths_differ, turned}
 use Rattle.sheet.specs.Sound.{AcceptsExactly}
 use Rattle.sheet.proofs.ExactlyAccepted.{accepts-exactly}
@@ -19,16 +19,16 @@ use Rattle.turns.specs.Keys.{Sizes}
 use Rattle.turns.specs.Answers.{without_polygon, numbers_turned}
 use Rattle.sheet.specs.Amounts.{most_edges}
 
-module _ (v : NumberLists) (test : NumberLists → ℕ → Bool) (refusal : ℕ → TurnRefusal) (rest : TurnAnswer) {r : ℕ} (found : r ≡ first (test v) v.edges) where
-  pub refuses : r < v.edges → Refused (refusal r) ≡ refuse_first_turn v test refusal rest
-  refuses l = rw (← found, lt-ltb r v.edges l)
+module _ (v : NumberLists) (test : NumberLists → ℕ → Bool) (refusal : ℕ → TurnRefusal) (rest : Result ℕ TurnRefusal) where
+  pub refuses : {e : ℕ} → (e < v.edges) × (e ≡ first (test v) v.edges) → Err (refusal e) ≡ refuse_first_turn v test refusal rest
+  refuses {e} found = rw (← found.1, lt-ltb e v.edges found.0)
 
-  pub passes : v.edges ≤ r → rest ≡ refuse_first_turn v test refusal rest
-  passes l = rw (← found, le-ltb r v.edges l)
+  pub passes : first (test v) v.edges ≡ v.edges → rest ≡ refuse_first_turn v test refusal rest
+  passes none = rw (none, le-ltb v.edges v.edges (omega arith))
 
 -- 11, and what follows where the lengths are as they should be
 module _ (polygons sequences : List ℕ) (turns : ℕ) {differ : Bool} (told : differ ≡ lengths_differ (length polygons) (length sequences) turns) where
-  pub turned-differing : differ ≡ true → Refused TurnLengths ≡ turned polygons sequences turns
+  pub turned-differing : differ ≡ true → Err TurnLengths ≡ turned polygons sequences turns
   unfolding turned
   turned-differing differs = rw (← told, differs)
 
@@ -51,36 +51,43 @@ module _ (polygons sequences : List ℕ) (turns : ℕ) {differ : Bool} (told : d
     turned-room = sym alike.1
 
 -- 12 to 14, and what is accepted
-module _ (polygons sequences : List ℕ) {none : ℕ} (without : none ≡ first (without_polygon polygons) (length polygons)) where
-  pub numbers-without : none < length polygons → Refused (NoPolygon none) ≡ numbers_turned polygons sequences
+module _ (polygons sequences : List ℕ) where
+  abbrev numbers : NumberLists
+  numbers = number_lists polygons sequences
+
+  abbrev Found : (ℕ → Bool) → ℕ → Type 0
+  Found test e = (e < length polygons) × (e ≡ first test (length polygons))
+
+  abbrev Nowhere : (ℕ → Bool) → Type 0
+  Nowhere test = first test (length polygons) ≡ length polygons
+
+  pub numbers-without : {e : ℕ} → Found (without_polygon polygons) e → Err (NoPolygon e) ≡ numbers_turned polygons sequences
   unfolding number_lists no_polygon without_polygon numbers_turned
-  numbers-without l = refuses (number_lists polygons sequences) no_polygon NoPolygon _ without l
+  numbers-without found = refuses numbers no_polygon NoPolygon _ found
 
-  module _ (l12 : length polygons ≤ none) {again : ℕ} (repeated : again ≡ first (pair_repeated (number_lists polygons sequences)) (length polygons)) where
-    pub numbers-again : again < length polygons → Refused (PairRepeated again) ≡ numbers_turned polygons sequences
+  module _ (n12 : Nowhere (without_polygon polygons)) where
+    pub numbers-again : {e : ℕ} → Found (pair_repeated numbers) e → Err (PairRepeated e) ≡ numbers_turned polygons sequences
     unfolding number_lists no_polygon without_polygon numbers_turned
-    numbers-again l =
-        refuses (number_lists polygons sequences) pair_repeated PairRepeated _ repeated l
-        ∙ passes (number_lists polygons sequences) no_polygon NoPolygon _ without l12
+    numbers-again found =
+        refuses numbers pair_repeated PairRepeated _ found
+        ∙ passes numbers no_polygon NoPolygon _ n12
 
-    module _ (l13 : length polygons ≤ again) {missing : ℕ} (gaps : missing ≡ first (gap (number_lists polygons sequences)) (length polygons)) where
-      pub numbers-gap : missing < length polygons → Refused (Gap missing) ≡ numbers_turned polygons sequences
+    module _ (n13 : Nowhere (pair_repeated numbers)) where
+      pub numbers-gap : {e : ℕ} → Found (gap numbers) e → Err (Gap e) ≡ numbers_turned polygons sequences
       unfolding number_lists no_polygon without_polygon numbers_turned
-      numbers-gap l =
-          refuses (number_lists polygons sequences) gap Gap _ gaps l
-          ∙ passes (number_lists polygons sequences) pair_repeated PairRepeated _ repeated l13
-          ∙ passes (number_lists polygons sequences) no_polygon NoPolygon _ without l12
+      numbers-gap found =
+          refuses numbers gap Gap _ found
+          ∙ passes numbers pair_repeated PairRepeated _ n13
+          ∙ passes numbers no_polygon NoPolygon _ n12
 
-      pub numbers-accepted : length polygons ≤ missing → {n : ℕ} →
-          n ≡ largest (number_lists polygons sequences).polygon (number_lists polygons sequences).edges →
-          Accepted n ≡ numbers_turned polygons sequences
+      pub numbers-accepted : Nowhere (gap numbers) → {n : ℕ} → n ≡ largest numbers.polygon numbers.edges → Ok n ≡ numbers_turned polygons sequences
       unfolding number_lists no_polygon without_polygon numbers_turned
-      numbers-accepted l14 e =
-          ap Accepted e
-          ∙ passes (number_lists polygons sequences) gap Gap _ gaps l14
-          ∙ passes (number_lists polygons sequences) pair_repeated PairRepeated _ repeated l13
-          ∙ passes (number_lists polygons sequences) no_polygon NoPolygon _ without l12
+      numbers-accepted n14 e =
+          ap Ok e
+          ∙ passes numbers gap Gap _ n14
+          ∙ passes numbers pair_repeated PairRepeated _ n13
+          ∙ passes numbers no_polygon NoPolygon _ n12
 
 -- whichever it is, it accepts exactly the good numberings
-pub answers-exactly : (polygons sequences : List ℕ) (turns : ℕ) {r : TurnAnswer} → r ≡ turned polygons sequences turns → AcceptsExactly polygons sequences turns r
+pub answers-exactly : (polygons sequences : List ℕ) (turns : ℕ) {r : Result ℕ TurnRefusal} → r ≡ turned polygons sequences turns → AcceptsExactly polygons sequences turns r
 answers-exactly polygons sequences turns told = subst (AcceptsExactly polygons sequences turns) (sym told) (accepts-exactly polygons sequences turns)

@@ -15,7 +15,7 @@ use Rattle.laws.proofs.Moving.{Moves, some-moved}
 use Rattle.sorting.specs.Sorted.{Sorted}
 use Rattle.sorting.proofs.Standing.{old-stands, new-stood}
 use Rattle.sheet.specs.TurnList.{NumberLists, Before}
-use Rattle.turns.specs.Keys.{key_of, key_at, stands_between, Keyed}
+use Rattle.turns.specs.Keys.{key_of, key_at, Rising, stands_between, Keyed}
 
 -- a polygon and a sequence number from their key
 pub key-pair : {p s q t : ℕ} → s < 4294967296 → t < 4294967296 → key_of p s ≡ key_of q t → (p ≡ q) × (s ≡ t)
@@ -75,3 +75,7 @@ module _ {v : NumberLists} {keys : List ℕ} (K : Keyed v keys) where
           let w = tells.outside e l t in
           let h = K.stands e l in
           (h.0, h.1, rw (le-leb low (get_or keys h.0 0) (omega (arith, h.2, w.0)), lt-ltb (get_or keys h.0 0) high (omega (arith, h.2, w.1))))
+
+-- all of as many keys as edges
+pub all-rising : {v : NumberLists} {keys : List ℕ} → Keyed v keys → length keys ≡ v.edges → Rising keys (length keys)
+all-rising K long = record { room = omega arith; order = λ a b ab bl. K.rising.order a b ab (omega arith) }

@@ -1,64 +1,57 @@
--- 13, edge by edge. An edge writes itself at the place of its key, where an earlier edge stands if and only if it has the same pair.
+-- 13, edge by edge. An edge writes itself at the place of its key, where an earlier edge of that key stands if and only if it has the same pair.
 -- Where no pair is repeated the edges have different places, as many as there are, so that each place has its edge and the keys rise strictly.
-use mathlib.Core.Path.{◌≡◌, refl, sym, ap, ◌∙◌}
-use mathlib.Core.Bool.{true, false}
+use mathlib.Core.Path.{◌≡◌, sym, ap, ◌∙◌}
+use mathlib.Core.Bool.{false}
 use mathlib.Core.List.{List}
-use mathlib.Core.Logic.{◌⊎◌, ⊎_elim, inl, inr}
+use mathlib.Core.Logic.{⊎_elim}
 use Prim.Native.Nat.{ℕ, ◌+◌, ◌≤◌, ◌<◌}
 use native.Mathlib.Omega.{arith}
 use lib.ListN.{length, get_or, set, length-set}
 use lib.Seq.{get_or-set_same, get_or-set_other}
 use Rattle.laws.specs.Counting.{first}
-use Rattle.laws.proofs.Deciding.{lt-or-le, eq-or-ne, true-or-false}
+use Rattle.laws.proofs.Deciding.{lt-or-le, true-or-false}
 use Rattle.laws.proofs.First.{below-some, below_none}
 use Rattle.laws.proofs.Searching.{NoneBelow, none_yet, none_more, found_first, found_none}
 use Rattle.laws.proofs.Pigeonhole.{reached}
 use Rattle.sheet.specs.TurnList.{NumberLists, pair_repeated}
 use Rattle.turns.specs.Keys.{key_at, place_from, Keyed}
-use Rattle.turns.specs.Order.{Blank, Ordered}
+use Rattle.turns.specs.Order.{Ordered}
 use Rattle.turns.proofs.Keys.{pair_same, key-same}
 use Rattle.turns.proofs.Places.{place_at, place-below, place-key}
 
 -- the edges below e are written, and none of them repeats a pair
-pub record Marking (v : NumberLists) (keys old order : List ℕ) (e : ℕ) : Type 0 where
+pub record Marking (v : NumberLists) (keys order : List ℕ) (e : ℕ) : Type 0 where
   pub within : e ≤ v.edges
-  pub size : length order ≡ length old
-  pub room : v.edges ≤ length old
+  pub room : v.edges ≤ length order
   pub written : (f : ℕ) → f < e → get_or order (place_at v keys f) 0 ≡ f
-  pub whose : (p : ℕ) → p < v.edges → (v.edges ≤ get_or order p 0) ⊎ ((f : ℕ) × (f < e) × (place_at v keys f ≡ p))
   pub none : NoneBelow (pair_repeated v) e
 
-pub marking-none : (v : NumberLists) (keys old : List ℕ) → Blank old v.edges → Marking v keys old old 0
-marking-none v keys old b = record {
+pub marking-none : (v : NumberLists) (keys order : List ℕ) → v.edges ≤ length order → Marking v keys order 0
+marking-none v keys order room = record {
   within = omega arith;
-  size = refl;
-  room = b.room;
+  room = room;
   written = λ f l. absurd (omega arith);
-  whose = λ p l. inl (b.nobody p l);
   none = none_yet _;
 }
 
-module _ {v : NumberLists} {keys old order : List ℕ} {e : ℕ} (K : Keyed v keys) (m : Marking v keys old order e) where
+module _ {v : NumberLists} {keys order : List ℕ} {e : ℕ} (K : Keyed v keys) (m : Marking v keys order e) where
   -- the place of the next edge's key
   module _ (l : e < v.edges) {p : ℕ} (here : p ≡ place_at v keys e) where
-    pub marking-room : p < length order
-    marking-room = omega (arith, here, m.size, m.room, place-below K e l)
+    marking-room : p < length order
+    marking-room = omega (arith, here, m.room, place-below K e l)
 
-    -- somebody stands there
-    pub marking-found : get_or order p 0 < v.edges → e ≡ first (pair_repeated v) v.edges
+    -- an earlier edge stands there, and has the same key
+    pub marking-found : get_or order p 0 < e → key_at v (get_or order p 0) ≡ key_at v e → e ≡ first (pair_repeated v) v.edges
     unfolding pair_repeated
-    marking-found some = ⊎_elim
-        (λ z. absurd (omega (arith, some, z)))
-        (λ w. found_first _ m.none l (repeated w.0 w.1 w.2))
-        (m.whose p (omega (arith, here, place-below K e l)))
-      where
-        repeated : (f : ℕ) → f < e → place_at v keys f ≡ p → pair_repeated v e ≡ true
-        repeated f fl q = below-some _ e f fl (pair_same K f e (sym (place-key K f (omega arith)) ∙ ap (λ (k : ℕ). get_or keys k 0) (q ∙ here) ∙ place-key K e l))
+    marking-found before same = found_first _ m.none l (below-some _ e (get_or order p 0) before (pair_same K (get_or order p 0) e same))
 
-    -- nobody does
-    module _ (free : v.edges ≤ get_or order p 0) where
+    -- none does
+    module _ (free : get_or order p 0 < e → key_at v (get_or order p 0) ≡ key_at v e → ⊥) where
       apart : (f : ℕ) → f < e → place_at v keys f ≡ p → ⊥
-      apart f fl q = omega (arith, free, m.written f fl, ap (λ (k : ℕ). get_or order k 0) q)
+      apart f fl q =
+          let there : get_or order p 0 ≡ f = ap (λ (k : ℕ). get_or order k 0) (sym q) ∙ m.written f fl in
+          let same = sym (place-key K f (omega arith)) ∙ ap (λ (k : ℕ). get_or keys k 0) (q ∙ here) ∙ place-key K e l in
+          free (omega (arith, there)) (ap (key_at v) there ∙ same)
 
       new : pair_repeated v e ≡ false
       unfolding pair_repeated
@@ -67,25 +60,20 @@ module _ {v : NumberLists} {keys old order : List ℕ} {e : ℕ} (K : Keyed v ke
           (λ t. t)
           (true-or-false _)
 
-      pub marking-more : Marking v keys old (set order p e) (e + 1)
+      pub marking-more : Marking v keys (set order p e) (e + 1)
       marking-more = record {
         within = omega arith;
-        size = length-set order _ _ ∙ m.size;
-        room = m.room;
+        room = omega (arith, m.room, length-set order p e);
         written = λ f fl. ⊎_elim
             (λ h. get_or-set_other order _ (place_at v keys f) _ 0 (apart f h) ∙ m.written f h)
             (λ h. let q : f ≡ e = omega arith in rw (q, ← here) (get_or-set_same order p e 0 marking-room))
             (lt-or-le f e);
-        whose = λ k kl. ⊎_elim
-            (λ q. inr (e, omega arith, sym here ∙ sym q))
-            (λ q. ⊎_elim (λ z. inl (rw (get_or-set_other order p k e 0 q) z)) (λ w. inr (w.0, omega (arith, w.1), w.2)) (m.whose k kl))
-            (eq-or-ne k p);
         none = none_more _ m.none new;
       }
 
   module _ (all : v.edges ≤ e) where
-    pub marking-all : v.edges ≡ first (pair_repeated v) v.edges
-    marking-all = found_none _ m.none all
+    pub marking-all : first (pair_repeated v) v.edges ≡ v.edges
+    marking-all = sym (found_none _ m.none all)
 
     apart-all : (f g : ℕ) → f < v.edges → g < v.edges → place_at v keys f ≡ place_at v keys g → f ≡ g
     apart-all f g fl gl q = omega (arith, m.written f (omega arith), m.written g (omega arith), ap (λ (p : ℕ). get_or order p 0) q)
@@ -95,7 +83,7 @@ module _ {v : NumberLists} {keys old order : List ℕ} {e : ℕ} (K : Keyed v ke
 
     pub marking-ordered : Ordered v keys order
     marking-ordered = record {
-      room = omega (arith, m.size, m.room);
+      room = m.room;
       edge = λ p l. let w = edge p l in omega (arith, w.1, who p l);
       key = λ p l. key_here p l ∙ ap (key_at v) (sym (who p l));
       strict = strict;

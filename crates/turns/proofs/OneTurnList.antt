@@ -16,8 +16,8 @@ use Rattle.laws.proofs.Deciding.{lt-or-le}
 use Rattle.laws.proofs.First.{below-some}
 use Rattle.laws.proofs.Once.{count-once}
 use Rattle.laws.proofs.Pigeonhole.{reached}
-use Rattle.sheet.specs.declared.TurnAnswer.{TurnAnswer}
-use Rattle.sheet.specs.declared.TurnAnswer.TheVariants.{Accepted, Refused}
+use Rattle.sheet.specs.declared.TurnRefusal.{TurnRefusal}
+use Rattle.std.specs.Prelude.{Result, Ok, Err}
 use Rattle.sheet.specs.TurnList.{NumberLists, Before, TurnList, TurnsAfter}
 
 pub not-each-before : (v : NumberLists) (e f : ℕ) → Before v e f → Before v f e → ⊥
@@ -81,9 +81,9 @@ module _ {v : NumberLists} where
     one-turn-list = ext_get_or 0 s t (S.size ∙ sym T.size) (λ i l. agree-below v.edges (omega arith) i (omega (arith, S.size)))
 
 -- what a call leaves in the turn list is settled by its answer
-pub one-outcome : (polygons sequences : List ℕ) (r : TurnAnswer) (before s t : List ℕ) →
+pub one-outcome : (polygons sequences : List ℕ) (r : Result ℕ TurnRefusal) (before s t : List ℕ) →
     TurnsAfter polygons sequences r before s →
     TurnsAfter polygons sequences r before t →
     s ≡ t
-one-outcome polygons sequences (Refused x) before s t a b = a ∙ sym b
-one-outcome polygons sequences (Accepted n) before s t a b = one-turn-list a b
+one-outcome polygons sequences (Err x) before s t a b = a ∙ sym b
+one-outcome polygons sequences (Ok n) before s t a b = one-turn-list a b

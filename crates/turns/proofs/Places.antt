@@ -1,18 +1,19 @@
 -- Where a key stands among keys that rise: the first that is not below it, found by halving. An edge's key stands at its place, and whether a key
 -- lies between two bounds is told by the first that is not below the lower one.
 use mathlib.Core.Path.{◌≡◌, sym, ◌∙◌}
-use mathlib.Core.Bool.{Bool, true, false, not, cond, ◌&&◌}
+use mathlib.Core.Bool.{Bool, true, false, ◌&&◌}
 use mathlib.Core.List.{List}
 use mathlib.Core.Logic.{⊎_elim}
-use Prim.Native.Nat.{ℕ, ◌+◌, ◌-◌, ◌≤◌, ◌<◌}
+use Prim.Native.Nat.{ℕ, ◌≤◌, ◌<◌}
 use native.Mathlib.Omega.{arith}
 use lib.Dec.{leb, ltb}
-use lib.ListN.{get_or}
-use borrow.Author.Tests.{lt-ltb, le-ltb, le-leb, lt-leb, leb-true}
+use lib.ListN.{length, get_or}
+use borrow.Author.Tests.{lt-ltb, le-ltb, le-leb, lt-leb, leb-true, ltb-true, ltb-false}
+use Rattle.std.specs.List.Sorted.{IsPartitionedBy, IsPartitionPoint}
+use Rattle.std.proofs.lemmas.List.Sorted.{IsPartitionedBy-ltb, IsNonDecreasingBy-from_default}
 use Rattle.laws.specs.Counting.{first}
 use Rattle.laws.proofs.Deciding.{lt-or-le, not-both}
-use Rattle.laws.proofs.First.{first_holds, first-least, below-some, below_none}
-use Rattle.laws.proofs.Halving.{Halving, halving-less, halving-more}
+use Rattle.laws.proofs.First.{first-is, first_holds, first-least, below-some, below_none}
 use Rattle.sheet.specs.TurnList.{NumberLists}
 use Rattle.turns.specs.Keys.{key_at, Rising, place_from, stands_between, Keyed}
 
@@ -24,25 +25,18 @@ from_on keys key k = leb key (get_or keys k 0)
 abbrev lies : List ℕ → ℕ → ℕ → ℕ → Bool
 lies keys low high k = leb low (get_or keys k 0) && ltb (get_or keys k 0) high
 
+-- what the library asks of keys that rise before it halves them, and what it answers
+module _ {keys : List ℕ} (R : Rising keys (length keys)) (key : ℕ) where
+  pub below-first : IsPartitionedBy (λ word. ltb word key) keys
+  below-first = IsPartitionedBy-ltb (λ word. word) keys key (IsNonDecreasingBy-from_default (λ word. word) keys 0 R.order)
+
+  pub parted : {r : ℕ} → r ≤ length keys → IsPartitionPoint (λ word. ltb word key ≡ true) (λ word. ltb word key ≡ false) keys r → r ≡ place_from keys (length keys) key
+  unfolding place_from
+  parted {r} within point = first-is (from_on keys key) (length keys) r within
+      (λ l. le-leb key (get_or keys r 0) (ltb-false _ _ (point.1 r 0 (omega arith) l)))
+      (λ k l. lt-leb key (get_or keys k 0) (ltb-true _ _ (point.0 k 0 (omega arith) l)))
+
 module _ {keys : List ℕ} {n : ℕ} (R : Rising keys n) where
-  -- the key at m tried, which is below the key or not
-  module _ (key : ℕ) {low high : ℕ} (m : ℕ) (lm : low ≤ m) (mh : m < high) {low' high' : ℕ}
-      (el : low' ≡ cond (ltb (get_or keys m 0) key) (m + 1) low) (eh : high' ≡ cond (ltb (get_or keys m 0) key) high m) where
-    pub halved-less : high' - low' < high - low
-    halved-less = halving-less lm mh (ltb (get_or keys m 0) key) el eh
-
-    pub halved : Halving (from_on keys key) n low high → Halving (from_on keys key) n low' high'
-    halved h = halving-more (from_on keys key) n stays h m lm mh (ltb (get_or keys m 0) key) tested el eh
-      where
-        stays : (a b : ℕ) → a ≤ b → b < n → from_on keys key a ≡ true → from_on keys key b ≡ true
-        stays a b ab bn t = le-leb key (get_or keys b 0) (omega (arith, leb-true key (get_or keys a 0) t, R.order a b ab bn))
-
-        tested : leb key (get_or keys m 0) ≡ not (ltb (get_or keys m 0) key)
-        tested = ⊎_elim
-            (λ l. rw (lt-ltb (get_or keys m 0) key l, lt-leb key (get_or keys m 0) l))
-            (λ l. rw (le-ltb (get_or keys m 0) key l, le-leb key (get_or keys m 0) l))
-            (lt-or-le (get_or keys m 0) key)
-
   module _ (low high : ℕ) where
     pub none_between : n ≤ place_from keys n low → false ≡ stands_between keys n low high
     unfolding place_from stands_between

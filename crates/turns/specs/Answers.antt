@@ -1,10 +1,9 @@
 -- The answer in its parts: 12 said of the polygon list alone, 14 said of the keys, the number of polygons, and what is left of the answer after 11.
-use Rattle.std.specs.Prelude.{ℕ, ◌-◌, ◌/◌, Bool, not, cond, ◌&&◌, List, eqb, ltb, length, get_or}
+use Rattle.std.specs.Prelude.{ℕ, ◌-◌, ◌/◌, Bool, not, cond, ◌&&◌, List, eqb, ltb, length, get_or, Result, Ok}
 use Rattle.laws.specs.Counting.{largest}
 use Rattle.sheet.specs.TurnList.{number_lists, refuse_first_turn, no_polygon, pair_repeated, gap}
+use Rattle.sheet.specs.declared.TurnRefusal.{TurnRefusal}
 use Rattle.sheet.specs.declared.TurnRefusal.TheVariants.{NoPolygon, PairRepeated, Gap}
-use Rattle.sheet.specs.declared.TurnAnswer.{TurnAnswer}
-use Rattle.sheet.specs.declared.TurnAnswer.TheVariants.{Accepted}
 use Rattle.turns.specs.Keys.{key_of, stands_between}
 
 -- 12
@@ -24,9 +23,9 @@ unfoldable pub last_polygon : List ℕ → ℕ → ℕ
 last_polygon keys n = cond (eqb n 0) 0 (get_or keys (n - 1) 0 / 4294967296)
 
 -- 12 to 14 in their order, and the number of polygons
-unfoldable pub numbers_turned : List ℕ → List ℕ → TurnAnswer
+unfoldable pub numbers_turned : List ℕ → List ℕ → Result ℕ TurnRefusal
 numbers_turned polygons sequences =
     refuse_first_turn (number_lists polygons sequences) no_polygon NoPolygon
     (refuse_first_turn (number_lists polygons sequences) pair_repeated PairRepeated
     (refuse_first_turn (number_lists polygons sequences) gap Gap
-    (Accepted (largest (λ e. get_or polygons e 0) (length polygons)))))
+    (Ok (largest (λ e. get_or polygons e 0) (length polygons)))))

@@ -2,3 +2,4 @@
 pub mod Keys
 pub mod Answers
 pub mod Order
+pub mod Numbered

@@ -1,13 +1,7 @@
--- The order that 13 writes beside the keys: at the place of an edge's key, the edge's place in the list, and where no edge was met, a number that is no
--- edge's place.
+-- The order that 13 writes beside the keys: at the place of an edge's key, the edge's place in the list.
 use Rattle.std.specs.Prelude.{ℕ, ◌≤◌, ◌<◌, ◌≡◌, List, length, get_or}
 use Rattle.sheet.specs.TurnList.{NumberLists}
 use Rattle.turns.specs.Keys.{key_at}
-
--- no edge of n was met yet
-pub record Blank (order : List ℕ) (n : ℕ) : Type 0 where
-  pub room : n ≤ length order
-  pub nobody : (p : ℕ) → p < n → n ≤ get_or order p 0
 
 -- each place has its edge, and no two keys are equal
 pub record Ordered (v : NumberLists) (keys order : List ℕ) : Type 0 where

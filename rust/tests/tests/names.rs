@@ -93,7 +93,10 @@ fn places() -> Places {
 fn names_in_rattle() -> (Names, Places) {
     let (mut names, mut places) = (names(), places());
     let text = read("docs/REFUSALS.md");
-    for line in text.lines().filter(|line| line.starts_with("| `Reading::")) {
+    for line in text
+        .lines()
+        .filter(|line| line.starts_with("| `TextRefusal::"))
+    {
         let cells: Vec<&str> = line.split('|').map(str::trim).collect();
         let case = cells[1].trim_matches('`').split_once("::").unwrap().1;
         let number = cells[2].parse().unwrap();

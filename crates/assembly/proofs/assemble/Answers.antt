@@ -1,12 +1,9 @@
--- `assemble` meets its contract: by the answer of the numbering, the turn list laid or left.
-use Rattle.assembly.proofs.Assembling.{to-lay, when-laid, when-refused}
+-- `assemble` meets its contract: of a numbering that is accepted the turn list is laid.
+use Rattle.assembly.proofs.Assembling.{to-lay, when-laid}
 use Rattle.assembly.proofs.assemble.Goals as goal
 
 pub lay_turns-requires : goal.lay_turns-requires
-lay_turns-requires c = to-lay c.number-answer.ensures _ _ _ c.in-Accepted.is
+lay_turns-requires c = let n = c.in_ok-numbered.numbered in to-lay c.number.ensures n.polygons n.peak n.records c.in_ok-numbered.was
 
-pub returns-in-Accepted : goal.returns-in-Accepted
-returns-in-Accepted c = when-laid c.number-answer.ensures _ _ _ c.in-Accepted.is c.lay_turns.ensures
-
-pub returns-in_default : goal.returns-in_default
-returns-in_default c = when-refused c.number-answer.ensures _ c.in_default.is
+pub returns : goal.returns
+returns c = let n = c.in_ok-numbered.numbered in when-laid c.number.ensures n.polygons n.peak n.records c.in_ok-numbered.was c.lay_turns.ensures

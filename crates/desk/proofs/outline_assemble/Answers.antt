@@ -7,6 +7,6 @@ pub returns : goal.returns
 returns c = record {
   inner = _;
   promised = c.assemble.ensures;
-  accepted = zero-is-accepted c.sheet_of.ensures;
-  same = λ i. left_as (c.sheet_of.ensures i) c.assemble.new.polygons c.assemble.new.sequences c.assemble.new.journal c.assemble.new.rows;
+  accepted = zero-is-accepted c.from.ensures;
+  same = λ i. left_as (c.from.ensures i) c.assemble.new.polygons c.assemble.new.sequences c.assemble.new.journal c.assemble.new.rows;
 }

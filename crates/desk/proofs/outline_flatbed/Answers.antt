@@ -3,4 +3,4 @@ use Rattle.desk.proofs.Telling.{told}
 use Rattle.desk.proofs.outline_flatbed.Goals as goal
 
 pub returns : goal.returns
-returns c = told c.instruction.ensures c.cut_of.ensures
+returns c = told c.instruction.ensures c.from.ensures

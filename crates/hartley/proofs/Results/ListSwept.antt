@@ -1,6 +1,7 @@
 -- The list's edges treated in order. Before each edge the invariant stands at its top, with its edges before it all in rows or outlines and those
 -- from it on still by themselves; treating it keeps that (EdgeTreated), and the next top is no lower. So the sweep ends done, or without a free row at
 -- an edge of the list that finds none itself. It never ends in an overrun.
+use Rattle.std.specs.Prelude.{Result, ⊤, Ok, Err}
 use mathlib.Core.Path.{◌≡◌, refl, ap, sym, ◌∙◌}
 use mathlib.Core.Bool.{false, cond}
 use mathlib.Core.List.{List, []}
@@ -13,8 +14,6 @@ use Rattle.sheet.specs.Edges.{top_height}
 use Rattle.sheet.specs.Corners.{apart}
 use Rattle.steps.specs.declared.Side.{Side}
 use Rattle.steps.specs.declared.Side.TheVariants.{Rising, Falling}
-use Rattle.steps.specs.declared.End.{End}
-use Rattle.steps.specs.declared.End.TheVariants.{Done, NoFreeRow}
 use Rattle.steps.specs.Rows.{other_side, on, Row, Record}
 use Rattle.steps.specs.SweepUp.{Sweep, start, sweep_up, treat, levels, after_done, bottom, top}
 use Rattle.steps.specs.Swept.{drawn_edge}
@@ -37,6 +36,8 @@ use Rattle.hartley.proofs.Step.StepsSeen.{Work, table_of, journal_of}
 use Rattle.hartley.proofs.Step.Given.{Setting, plan, laws, room_in}
 use Rattle.hartley.proofs.Step.EdgeInHand.{Inv, Crowded, FindsNone, Outcome, went, full}
 use Rattle.hartley.proofs.Step.EdgeTreated.{treat-outcome}
+use Rattle.steps.specs.declared.Halt.{Halt}
+use Rattle.steps.specs.declared.Halt.TheVariants.{NoFreeRow}
 
 -- the side on which an edge climbs, and its top there
 abbrev pick_side : {P Q : Type 0} → P ⊎ Q → Side
@@ -152,9 +153,9 @@ module _ (A : Setting) where
     pub gone : (a : ℕ) → a ≤ i → size paths (edge a) ≡ 0
     pub listed_is : listed (journal_of s) ≡ suc i
 
-  pub data Result (i : ℕ) (l : i < A.sheet.edges) (s : Work) : Type 0 where
-    past : Past i l s → Result i l s
-    stopped : s.end ≡ NoFreeRow → Result i l s
+  pub data SweptTo (i : ℕ) (l : i < A.sheet.edges) (s : Work) : Type 0 where
+    past : Past i l s → SweptTo i l s
+    stopped : s.end ≡ Err NoFreeRow → SweptTo i l s
 
   -- the edge finds no row, and what follows of how many there are
   pub record Lacking (i : ℕ) (l : i < A.sheet.edges) (s : Work) : Type 0 where
@@ -216,10 +217,10 @@ module _ (A : Setting) where
     ended : Outcome A (time N i h) 0 s (drawn_edge A.sheet i) s' (1 + listed (journal_of s)) (λ Y' B' G'. Kept 0 (edge i) Q.names.born Q.births Y' Q.names B' Q.paths G')
     ended = treat-outcome A (time N i h) levels 0 refl s (drawn_edge A.sheet i) Q.births Q.names Q.paths (edge i) Q.inv (pre-edge i h s Q) Q.clean (λ z. absurd (omega arith)) (omega (arith, Q.listed_is))
 
-    treated : Result i h s'
+    treated : SweptTo i h s'
     treated = by ended
       where
-        by : Outcome A (time N i h) 0 s (drawn_edge A.sheet i) s' (1 + listed (journal_of s)) (λ Y' B' G'. Kept 0 (edge i) Q.names.born Q.births Y' Q.names B' Q.paths G') → Result i h s'
+        by : Outcome A (time N i h) 0 s (drawn_edge A.sheet i) s' (1 + listed (journal_of s)) (λ Y' B' G'. Kept 0 (edge i) Q.names.born Q.births Y' Q.names B' Q.paths G') → SweptTo i h s'
         by (full z e n c) = stopped e
         by (went w) = past (record {
           births = w.births;
@@ -232,12 +233,12 @@ module _ (A : Setting) where
           listed_is = omega (arith, w.listed_is, Q.listed_is);
         })
 
-    lacks : s'.end ≡ NoFreeRow → Lacking i h s
+    lacks : s'.end ≡ Err NoFreeRow → Lacking i h s
     lacks d = by ended
       where
         by : Outcome A (time N i h) 0 s (drawn_edge A.sheet i) s' (1 + listed (journal_of s)) (λ Y' B' G'. Kept 0 (edge i) Q.names.born Q.births Y' Q.names B' Q.paths G') → Lacking i h s
         by (full z e n c) = record { finds_none = n; crowded = c; reach_rows = Q.inv.reach_rows }
-        by (went w) = let e : Done ≡ NoFreeRow = sym w.inv.is_done ∙ d in let z : ◌≡◌ {A = ℕ} 0 1 = cc in absurd (omega arith)
+        by (went w) = let e : (Ok tt) ≡ Err NoFreeRow = sym w.inv.is_done ∙ d in let z : ◌≡◌ {A = ℕ} 0 1 = cc in absurd (omega arith)
 
   onwards : (i : ℕ) (h : suc i < A.sheet.edges) (l : i < A.sheet.edges) (s : Work) → Past i l s → Before (suc i) h s
   onwards i h l s Q = record {
@@ -282,10 +283,10 @@ module _ (A : Setting) where
     abbrev at : ℕ → Sweep (ℕ → Row ℕ) (ℕ → Record)
     at k = near_to A.sheet A.rows A.records t j k
 
-    next-state : (w : Sweep (ℕ → Row ℕ) (ℕ → Record)) (s : Work) (i : ℕ) (d : End) → w.state.end ≡ d → (after_done w.state.end w (record { state = s; edge = i })).state ≡ (after_done d w (record { state = s; edge = i })).state
+    next-state : (w : Sweep (ℕ → Row ℕ) (ℕ → Record)) (s : Work) (i : ℕ) (d : Result ⊤ Halt) → w.state.end ≡ d → (after_done w.state.end w (record { state = s; edge = i })).state ≡ (after_done d w (record { state = s; edge = i })).state
     next-state w s i d e = ap (λ x. (after_done x w (record { state = s; edge = i })).state) e
 
-    pub sweep-result : (i : ℕ) (l : i < A.sheet.edges) → Result i l (at (suc i)).state
+    pub sweep-result : (i : ℕ) (l : i < A.sheet.edges) → SweptTo i l (at (suc i)).state
     unfolding sweep_up
     sweep-result zero l = treated 0 l (start 0 t j) (begun l)
     sweep-result (suc i) l = by (sweep-result i (omega arith))
@@ -293,20 +294,20 @@ module _ (A : Setting) where
         s₁ : Work
         s₁ = treat (room_in A) levels 0 (at (suc i)).state (drawn_edge A.sheet (suc i))
 
-        by : {m : i < A.sheet.edges} → Result i m (at (suc i)).state → Result (suc i) l (after_done (at (suc i)).state.end (at (suc i)) (record { state = s₁; edge = suc i })).state
-        by (stopped e) = rw (next-state (at (suc i)) s₁ (suc i) NoFreeRow e) (stopped e)
-        by {m} (past Q) = rw (next-state (at (suc i)) s₁ (suc i) Done Q.inv.is_done) (treated (suc i) l (at (suc i)).state (onwards i l m (at (suc i)).state Q))
+        by : {m : i < A.sheet.edges} → SweptTo i m (at (suc i)).state → SweptTo (suc i) l (after_done (at (suc i)).state.end (at (suc i)) (record { state = s₁; edge = suc i })).state
+        by (stopped e) = rw (next-state (at (suc i)) s₁ (suc i) (Err NoFreeRow) e) (stopped e)
+        by {m} (past Q) = rw (next-state (at (suc i)) s₁ (suc i) (Ok tt) Q.inv.is_done) (treated (suc i) l (at (suc i)).state (onwards i l m (at (suc i)).state Q))
 
     -- the edges before i are treated
-    pub before-edge : (i : ℕ) (l : i < A.sheet.edges) → (at i).state.end ≡ Done → Before i l (at i).state
+    pub before-edge : (i : ℕ) (l : i < A.sheet.edges) → (at i).state.end ≡ Ok tt → Before i l (at i).state
     unfolding sweep_up
     before-edge zero l d = begun l
     before-edge (suc i) l d = by (sweep-result i (omega arith))
       where
-        by : {m : i < A.sheet.edges} → Result i m (at (suc i)).state → Before (suc i) l (at (suc i)).state
+        by : {m : i < A.sheet.edges} → SweptTo i m (at (suc i)).state → Before (suc i) l (at (suc i)).state
         by {m} (past Q) = onwards i l m (at (suc i)).state Q
-        by (stopped e) = let f : Done ≡ NoFreeRow = sym d ∙ e in let z : ◌≡◌ {A = ℕ} 0 1 = cc in absurd (omega arith)
+        by (stopped e) = let f : (Ok tt) ≡ Err NoFreeRow = sym d ∙ e in let z : ◌≡◌ {A = ℕ} 0 1 = cc in absurd (omega arith)
 
     -- .. and i finds no row
-    pub lacking-at : (i : ℕ) (l : i < A.sheet.edges) → (at i).state.end ≡ Done → (treat (room_in A) levels 0 (at i).state (drawn_edge A.sheet i)).end ≡ NoFreeRow → Lacking i l (at i).state
+    pub lacking-at : (i : ℕ) (l : i < A.sheet.edges) → (at i).state.end ≡ Ok tt → (treat (room_in A) levels 0 (at i).state (drawn_edge A.sheet i)).end ≡ Err NoFreeRow → Lacking i l (at i).state
     lacking-at i l d e = lacks i l (at i).state (before-edge i l d) e

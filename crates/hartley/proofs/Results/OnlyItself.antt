@@ -1,5 +1,6 @@
 -- Only an edge of the list can lack a row. Where the run that looks as far as rows have been opened ends without a free row it is the edge itself that finds none, and
 -- all rows are in use (ListSwept); its reach is then all the rows lent, so that 01's run, which looks at all of them, stands at the same state.
+use Rattle.std.specs.Prelude.{Ok, Err}
 use mathlib.Core.Path.{◌≡◌, refl, ap, sym, ◌∙◌}
 use mathlib.Core.Bool.{◌&&◌}
 use Prim.Native.Nat.{ℕ, suc, ◌*◌, ◌≤◌}
@@ -10,7 +11,6 @@ use Rattle.sheet.specs.Amounts.{most_edges}
 use Rattle.sheet.specs.Edges.{Drawing}
 use Rattle.sheet.proofs.Checked.{Checked}
 use Rattle.steps.specs.declared.Side.{Side}
-use Rattle.steps.specs.declared.End.TheVariants.{Done, NoFreeRow}
 use Rattle.steps.specs.Rows.{Row, Record, Room}
 use Rattle.steps.specs.SweepUp as up
 use Rattle.steps.specs.SweepUp.{Sweep, found_below, has_tip, levels, start, treat}
@@ -22,6 +22,7 @@ use Rattle.hartley.proofs.Step.StepsSeen.{Work}
 use Rattle.hartley.proofs.Step.Given.{Setting, room_in}
 use Rattle.hartley.proofs.Results.NearRun.{near_to}
 use Rattle.hartley.proofs.Results.ListSwept.{Lacking, lacking-at}
+use Rattle.steps.specs.declared.Halt.TheVariants.{NoFreeRow}
 
 -- what is found and how many are in use is a matter of the table and the reach
 module _ (room : Room ℕ (ℕ → Row ℕ) (ℕ → Record)) (s s' : Work) (e : s.rows ≡ s'.rows) (q : s.reach ≡ s'.reach) where
@@ -45,10 +46,10 @@ module _ {sh : Drawing} (K : Checked sh) (few : sh.edges ≤ most_edges) (rows e
   same k = all-rows (places_of sh) rows (2 * sh.edges) (drawn_edge sh) free_rows no_records (λ r l. refl) k
 
   -- the near run stops there too
-  before : (near e).state.end ≡ Done
+  before : (near e).state.end ≡ Ok tt
   before = (same e).end ∙ L.before
 
-  lacking : (treat (room_in A) levels 0 (near e).state (drawn_edge sh e)).end ≡ NoFreeRow
+  lacking : (treat (room_in A) levels 0 (near e).state (drawn_edge sh e)).end ≡ Err NoFreeRow
   unfolding swept_to
   lacking =
       sym (ap (λ w. w.state.end) (when-done (room_in A) (drawn_edge sh) (start 0 free_rows no_records) e before))

@@ -1,6 +1,7 @@
 -- What the two sweeps give for a checked list: the theorems that other crates cite, in the words of crates/sheet and crates/steps. The list is `sh`, and `up`
 -- is document 01's run on it: all rows free at the start, all of them looked at. The theory before this speaks of the run that looks only as far as
 -- rows have been opened, `near`; they hold the same and count the same peak (steps/proofs/Reaching.antt).
+use Rattle.std.specs.Prelude.{Ok, Err}
 use mathlib.Core.Path.{◌≡◌, refl, sym, ap, ◌∙◌}
 use mathlib.Core.Logic.{◌⊎◌, inl, inr, ⊎_elim}
 use Prim.Native.Nat.{ℕ, ◌+◌, ◌-◌, ◌*◌, ◌≤◌, ◌<◌}
@@ -12,7 +13,6 @@ use Rattle.sheet.specs.Joining.{Follows}
 use Rattle.sheet.specs.Numbering.{Numbering}
 use Rattle.sheet.specs.Passing.{Enough}
 use Rattle.sheet.proofs.Checked.{Checked}
-use Rattle.steps.specs.declared.End.TheVariants.{Done, NoFreeRow}
 use Rattle.steps.specs.Rows.{Row, Record}
 use Rattle.steps.specs.SweepUp.{Sweep, start}
 use Rattle.steps.specs.SweepDown.{natural_part, Pair, Reading}
@@ -32,6 +32,7 @@ use Rattle.hartley.proofs.Results.NumbersFit.{Fits, all_held}
 use Rattle.hartley.proofs.Results.OnlyItself as itself
 use Rattle.hartley.proofs.Results.RowsEnough.{twelve-each, fewer-rows, enough_rows}
 use Rattle.sheet.specs.Amounts.{most_edges}
+use Rattle.steps.specs.declared.Halt.TheVariants.{NoFreeRow}
 
 module _ {sh : Drawing} (K : Checked sh) (few : sh.edges ≤ most_edges) where
   -- with so many rows lent
@@ -54,11 +55,11 @@ module _ {sh : Drawing} (K : Checked sh) (few : sh.edges ≤ most_edges) where
     peak-near = sym same.peak ∙ (sweep-within (plain_room sh rows (2 * sh.edges)) plain-alone (drawn_edge sh) sh.edges free_rows no_records).by_name
 
     -- the sweep up ends done or without a free row, never in an overrun
-    pub up_ends : (up.state.end ≡ Done) ⊎ (up.state.end ≡ NoFreeRow)
+    pub up_ends : (up.state.end ≡ Ok tt) ⊎ (up.state.end ≡ Err NoFreeRow)
     up_ends = ⊎_elim (λ h. inl (sym same.end ∙ h)) (λ h. inr (sym same.end ∙ h)) (sweep-ends A free_rows no_records)
 
     -- .. and without a free row at edge e exactly when step 1 lacks one while e is treated
-    pub lacks_row : up.state.end ≡ NoFreeRow → LacksRow sh rows up.edge
+    pub lacks_row : up.state.end ≡ Err NoFreeRow → LacksRow sh rows up.edge
     unfolding swept_to
     lacks_row h = let S = stops_at (plain_room sh rows (2 * sh.edges)) (drawn_edge sh) (start rows free_rows no_records) refl sh.edges h in record { is_edge = S.is_edge; before = S.before; lacking = S.lacking }
 
@@ -66,11 +67,11 @@ module _ {sh : Drawing} (K : Checked sh) (few : sh.edges ≤ most_edges) where
     pub lacks_itself : (e : ℕ) → LacksRow sh rows e → LacksItself sh rows e
     lacks_itself e L = itself.lacks_itself K few rows e L
 
-    pub lacking-row : (e : ℕ) → LacksRow sh rows e → (up.state.end ≡ NoFreeRow) × (up.edge ≡ e)
+    pub lacking-row : (e : ℕ) → LacksRow sh rows e → (up.state.end ≡ Err NoFreeRow) × (up.edge ≡ e)
     unfolding swept_to
     lacking-row e L = stopped (plain_room sh rows (2 * sh.edges)) (drawn_edge sh) (start rows free_rows no_records) sh.edges e (record { is_edge = L.is_edge; before = L.before; lacking = L.lacking })
 
-    module _ (done : up.state.end ≡ Done) where
+    module _ (done : up.state.end ≡ Ok tt) where
       F : Finished A near.state
       F = when-done A free_rows no_records (same.end ∙ done)
 
@@ -99,13 +100,13 @@ module _ {sh : Drawing} (K : Checked sh) (few : sh.edges ≤ most_edges) where
 
     -- demand 3: so many rows are always enough, and fewer already; `polygon` gives the edges of an outline one number
     module _ (polygon : ℕ → ℕ) (shared : (e f : ℕ) → Follows sh e f → polygon f ≡ polygon e) (c : ℕ) (enough : Enough sh polygon c) where
-      pub enough-done : c ≤ rows → up.state.end ≡ Done
+      pub enough-done : c ≤ rows → up.state.end ≡ Ok tt
       enough-done lent = sym same.end ∙ enough_rows A polygon shared free_rows no_records c enough lent
 
-      pub fewer-done : 1 + enough.log * (enough.C - 2) ≤ rows → up.state.end ≡ Done
+      pub fewer-done : 1 + enough.log * (enough.C - 2) ≤ rows → up.state.end ≡ Ok tt
       fewer-done lent = sym same.end ∙ fewer-rows A polygon shared free_rows no_records c enough lent
 
-    pub twelve-each-done : 12 * sh.edges ≤ rows → up.state.end ≡ Done
+    pub twelve-each-done : 12 * sh.edges ≤ rows → up.state.end ≡ Ok tt
     twelve-each-done lent = sym same.end ∙ twelve-each A free_rows no_records lent
 
   -- runs with n rows and with no fewer: the same where the peak of the second is within n, otherwise the first ends without a free row
@@ -113,7 +114,7 @@ module _ {sh : Drawing} (K : Checked sh) (few : sh.edges ≤ most_edges) where
     cut-within : (up rows).state.peak ≤ n → near n ≡ near rows
     cut-within h = (sweep-cut (places_of sh) plain_table plain-alone plain_journal (2 * sh.edges) n rows more (drawn_edge sh) (start 0 free_rows no_records) sh.edges (omega arith)).within (omega (arith, h, peak-near rows))
 
-    cut-beyond : n < (up rows).state.peak → (up n).state.end ≡ NoFreeRow
+    cut-beyond : n < (up rows).state.peak → (up n).state.end ≡ Err NoFreeRow
     cut-beyond h = sym (same n).end ∙ (sweep-cut (places_of sh) plain_table plain-alone plain_journal (2 * sh.edges) n rows more (drawn_edge sh) (start 0 free_rows no_records) sh.edges (omega arith)).beyond (omega (arith, h, peak-near rows))
 
   same-run : (n rows : ℕ) → near n ≡ near rows → SameRun (up n) (up rows)
@@ -128,21 +129,21 @@ module _ {sh : Drawing} (K : Checked sh) (few : sh.edges ≤ most_edges) where
       }
 
   -- the peak is exact: with that many rows or more the sweep is the same to the last record ..
-  pub peak-suffices : (rows n : ℕ) → (up rows).state.end ≡ Done → (up rows).state.peak ≤ n → SameRun (up n) (up rows)
+  pub peak-suffices : (rows n : ℕ) → (up rows).state.end ≡ Ok tt → (up rows).state.peak ≤ n → SameRun (up n) (up rows)
   peak-suffices rows n done h = ⊎_elim more (λ l. same-run n rows (cut-within n rows l h)) (lt-or-le rows n)
     where
       more : rows < n → SameRun (up n) (up rows)
       more l = ⊎_elim
-          (λ b. let f : NoFreeRow ≡ Done = sym (cut-beyond rows n (omega arith) b) ∙ done in let z : ◌≡◌ {A = ℕ} 0 1 = cc in absurd (omega arith))
+          (λ b. let f : (Err NoFreeRow) ≡ Ok tt = sym (cut-beyond rows n (omega arith) b) ∙ done in let z : ◌≡◌ {A = ℕ} 0 1 = cc in absurd (omega arith))
           (λ b. same-run n rows (sym (cut-within rows n (omega arith) b)))
           (lt-or-le rows (up n).state.peak)
 
   -- .. and with fewer it ends without a free row
-  pub fewer_refused : (rows n : ℕ) → (up rows).state.end ≡ Done → n < (up rows).state.peak → (up n).state.end ≡ NoFreeRow
+  pub fewer_refused : (rows n : ℕ) → (up rows).state.end ≡ Ok tt → n < (up rows).state.peak → (up n).state.end ≡ Err NoFreeRow
   fewer_refused rows n done h = cut-beyond n rows (omega (arith, h, (peak-within rows done).0)) h
 
   -- demand 3 for the peak itself: rows that are enough are no fewer than the peak
-  pub peak-at-most : (c rows : ℕ) → (up c).state.end ≡ Done → c ≤ rows → (up rows).state.peak ≤ c
+  pub peak-at-most : (c rows : ℕ) → (up c).state.end ≡ Ok tt → c ≤ rows → (up rows).state.peak ≤ c
   peak-at-most c rows done lent = ⊎_elim (λ h. absurd (clash h)) (λ h. h) (lt-or-le c (up rows).state.peak)
     where
       clash : c < (up rows).state.peak → ⊥

@@ -1,6 +1,7 @@
 -- Rows that are always enough. Where an edge of the list finds no row all rows are in use (SweepEnded); those of a level are fewer by two than the edges that pass
 -- the edge's top, so at most C less two, and a level that is in use has an outline of 2 ^ level edges with room for it, so at most the whole part of log2 L levels
 -- are. One row more than all these is never lacked, nor is C times the levels, which is more.
+use Rattle.std.specs.Prelude.{Ok, Err}
 use mathlib.Core.Path.{◌≡◌, refl, ap, sym, ◌∙◌}
 use mathlib.Core.Logic.{⊎_elim}
 use Prim.Native.Nat.{ℕ, suc, ◌+◌, ◌-◌, ◌*◌, ◌^◌, ◌≤◌, ◌<◌}
@@ -13,7 +14,6 @@ use Rattle.laws.proofs.Counting.{count-le}
 use Rattle.sheet.specs.Joining.{Follows}
 use Rattle.sheet.specs.Passing.{passing, outline_size, Enough}
 use Rattle.sheet.proofs.Checked.{joins}
-use Rattle.steps.specs.declared.End.TheVariants.{Done, NoFreeRow}
 use Rattle.steps.specs.Rows.{Row, Record}
 use Rattle.hartley.proofs.Results.NearRun.{near_run}
 use Rattle.hartley.proofs.Paths.Plan.{height}
@@ -23,12 +23,13 @@ use Rattle.hartley.proofs.Bounds.RowsOfALevel.{passes}
 use Rattle.hartley.proofs.Step.Given.{Setting, plan, laws}
 use Rattle.hartley.proofs.Results.ListSwept.{top_of}
 use Rattle.hartley.proofs.Results.SweepEnded.{sweep-ends, when-refused}
+use Rattle.steps.specs.declared.Halt.TheVariants.{NoFreeRow}
 
 -- twelve rows an edge are enough whatever the outlines: no level is above 12, and no more edges pass a place than there are
-pub twelve-each : (A : Setting) (t : ℕ → Row ℕ) (j : ℕ → Record) → 12 * A.sheet.edges ≤ A.rows → (near_run A.sheet A.rows A.records t j).state.end ≡ Done
+pub twelve-each : (A : Setting) (t : ℕ → Row ℕ) (j : ℕ → Record) → 12 * A.sheet.edges ≤ A.rows → (near_run A.sheet A.rows A.records t j).state.end ≡ Ok tt
 twelve-each A t j lent = ⊎_elim (λ d. d) (λ d. absurd (refused d)) (sweep-ends A t j)
   where
-    refused : (near_run A.sheet A.rows A.records t j).state.end ≡ NoFreeRow → ⊥
+    refused : (near_run A.sheet A.rows A.records t j).state.end ≡ Err NoFreeRow → ⊥
     refused d =
         let w = when-refused A t j d in
         omega (arith, w.2.crowded 12 (λ l r. level-small (laws A) A.few l r), count-le (passes (plan A) (top_of (plan A) w.0)) A.sheet.edges, lent)
@@ -48,7 +49,7 @@ module _ (A : Setting) (polygon : ℕ → ℕ) (shared : (e f : ℕ) → Follows
       pub passing_some : 2 ≤ enough.C
       pub few_rows : A.rows ≤ enough.log * (enough.C - 2)
 
-    refused : (near_run A.sheet A.rows A.records t j).state.end ≡ NoFreeRow → Refused
+    refused : (near_run A.sheet A.rows A.records t j).state.end ≡ Err NoFreeRow → Refused
     unfolding passing
     refused d =
         let w = when-refused A t j d in
@@ -60,15 +61,15 @@ module _ (A : Setting) (polygon : ℕ → ℕ) (shared : (e f : ℕ) → Follows
         less : {m n : ℕ} → m ≤ n → m - 2 ≤ n - 2
         less l = omega (arith, l)
 
-    ends-done : (Refused → ⊥) → (near_run A.sheet A.rows A.records t j).state.end ≡ Done
+    ends-done : (Refused → ⊥) → (near_run A.sheet A.rows A.records t j).state.end ≡ Ok tt
     ends-done never = ⊎_elim (λ d. d) (λ d. absurd (never (refused d))) (sweep-ends A t j)
 
     -- demand 3, sharper
-    pub fewer-rows : 1 + enough.log * (enough.C - 2) ≤ A.rows → (near_run A.sheet A.rows A.records t j).state.end ≡ Done
+    pub fewer-rows : 1 + enough.log * (enough.C - 2) ≤ A.rows → (near_run A.sheet A.rows A.records t j).state.end ≡ Ok tt
     fewer-rows lent = ends-done (λ r. omega (arith, lent, r.few_rows))
 
     -- demand 3
-    pub enough_rows : c ≤ A.rows → (near_run A.sheet A.rows A.records t j).state.end ≡ Done
+    pub enough_rows : c ≤ A.rows → (near_run A.sheet A.rows A.records t j).state.end ≡ Ok tt
     enough_rows lent = ends-done (λ r. omega (arith, lent, r.few_rows, r.levels, all_of r))
       where
         -- C times the levels are the smaller number and twice the levels more

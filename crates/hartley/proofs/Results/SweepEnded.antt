@@ -1,12 +1,12 @@
 -- The end of the sweep up: it is done, or no row was free. Where it is done every edge stands in a closed outline at an index, and the records and the outlines are
 -- together at most twice the edges.
+use Rattle.std.specs.Prelude.{Ok, Err}
 use mathlib.Core.Path.{◌≡◌, refl, ap, sym, subst}
 use mathlib.Core.List.{[]}
 use mathlib.Core.Logic.{◌⊎◌, inl, inr, ⊎_elim}
 use Prim.Native.Nat.{ℕ, suc, ◌+◌, ◌-◌, ◌*◌, ◌≤◌, ◌<◌}
 use native.Mathlib.Omega.{arith}
 use Rattle.laws.proofs.Deciding.{lt-or-le}
-use Rattle.steps.specs.declared.End.TheVariants.{Done, NoFreeRow}
 use Rattle.steps.specs.Rows.{Row, Record}
 use Rattle.steps.specs.SweepUp.{start, sweep_up}
 use Rattle.steps.specs.Swept.{drawn_edge}
@@ -25,7 +25,8 @@ use Rattle.hartley.proofs.Invariant.NoRowLeft.{closed_all}
 use Rattle.hartley.proofs.Bounds.LengthsAndLevels.{records-small}
 use Rattle.hartley.proofs.Step.StepsSeen.{Work, journal_of}
 use Rattle.hartley.proofs.Step.Given.{Setting, plan, laws, room_in, Held}
-use Rattle.hartley.proofs.Results.ListSwept.{time, Past, Result, past, stopped, Lacking, no-records, sweep-result, lacking-at}
+use Rattle.hartley.proofs.Results.ListSwept.{time, Past, SweptTo, past, stopped, Lacking, no-records, sweep-result, lacking-at}
+use Rattle.steps.specs.declared.Halt.TheVariants.{NoFreeRow}
 
 module _ (A : Setting) where
   abbrev sh : Plan
@@ -105,8 +106,8 @@ module _ (A : Setting) where
     over = (near_run A.sheet A.rows A.records t j).state
 
     pub data Ending (s : Work) : Type 0 where
-      finished : s.end ≡ Done → Finished s → Ending s
-      refused : s.end ≡ NoFreeRow → Ending s
+      finished : s.end ≡ Ok tt → Finished s → Ending s
+      refused : s.end ≡ Err NoFreeRow → Ending s
 
     pub ending : Ending over
     unfolding sweep_up
@@ -115,7 +116,7 @@ module _ (A : Setting) where
         some : (i : ℕ) → i < A.sheet.edges → suc i ≡ A.sheet.edges → Ending over
         some i l e = subst (λ k. Ending (near_to A.sheet A.rows A.records t j k).state) e (by (sweep-result A t j i l))
           where
-            by : {s : Work} → Result A i l s → Ending s
+            by : {s : Work} → SweptTo A i l s → Ending s
             by (past Q) = finished Q.inv.is_done (at-end i l e _ Q)
             by (stopped d) = refused d
 
@@ -123,22 +124,22 @@ module _ (A : Setting) where
         none z = finished refl (empty z)
 
     -- it ends done or without a free row
-    pub sweep-ends : (over.end ≡ Done) ⊎ (over.end ≡ NoFreeRow)
+    pub sweep-ends : (over.end ≡ Ok tt) ⊎ (over.end ≡ Err NoFreeRow)
     sweep-ends = by ending
       where
-        by : {s : Work} → Ending s → (s.end ≡ Done) ⊎ (s.end ≡ NoFreeRow)
+        by : {s : Work} → Ending s → (s.end ≡ Ok tt) ⊎ (s.end ≡ Err NoFreeRow)
         by (finished e F) = inl e
         by (refused e) = inr e
 
-    pub when-done : over.end ≡ Done → Finished over
+    pub when-done : over.end ≡ Ok tt → Finished over
     when-done d = by ending d
       where
-        by : {s : Work} → Ending s → s.end ≡ Done → Finished s
+        by : {s : Work} → Ending s → s.end ≡ Ok tt → Finished s
         by (finished e F) d = F
         by (refused e) d = let z : ◌≡◌ {A = ℕ} 0 1 = cc in absurd (omega arith)
 
     -- where no row was free, at which edge
-    pub when-refused : over.end ≡ NoFreeRow → (k : ℕ) × (h : k < A.sheet.edges) × Lacking A k h (near_to A.sheet A.rows A.records t j k).state
+    pub when-refused : over.end ≡ Err NoFreeRow → (k : ℕ) × (h : k < A.sheet.edges) × Lacking A k h (near_to A.sheet A.rows A.records t j k).state
     when-refused d =
         let S = stops_at (room_in A) (drawn_edge A.sheet) (start 0 t j) refl A.sheet.edges d in
         (_, S.is_edge, lacking-at A t j _ S.is_edge S.before S.lacking)

@@ -1,5 +1,6 @@
 -- One edge in hand at plain tables, followed through the four steps: the row found or opened (`Slotted`), the edge put into it (`guards`: the journal and the lengths
 -- have room), and the row met at its top or none (`Met`).
+use Rattle.std.specs.Prelude.{Option, Some, None, Ok, Err}
 use mathlib.Core.Path.{◌≡◌, refl, ap, sym, ◌∙◌}
 use mathlib.Core.Bool.{Bool, true, false}
 use mathlib.Core.List.{◌∷◌}
@@ -10,9 +11,6 @@ use Rattle.laws.proofs.Deciding.{not-both}
 use Rattle.sheet.specs.Corners.{apart}
 use Rattle.steps.specs.declared.Side.{Side}
 use Rattle.steps.specs.declared.Side.TheVariants.{Rising, Falling}
-use Rattle.steps.specs.declared.Found.{Found}
-use Rattle.steps.specs.declared.Found.TheVariants.{At, Nothing}
-use Rattle.steps.specs.declared.End.TheVariants.{Done, NoFreeRow}
 use Rattle.steps.specs.Rows.{other_side, on, Row, Record, LevelEdge, Room}
 use Rattle.steps.specs.SweepUp as up
 use Rattle.steps.specs.SweepUp.{bottom, top, signed}
@@ -37,6 +35,7 @@ use Rattle.hartley.proofs.Step.StepsOnARow.{alive₂, not-x₂, one-name₂, unm
 use Rattle.hartley.proofs.Step.TableSeen.{view_in}
 use Rattle.hartley.proofs.Step.StepsSeen.{Work, table_of, journal_of, find_at, find_none, Opened, open_is, open-journal, attached, attach-is, attached-rest, attached-table, attached-journal, joined, joined-rest, joined-table}
 use Rattle.hartley.proofs.Step.Given.{Held, Setting, laws, plan, room_in}
+use Rattle.steps.specs.declared.Halt.TheVariants.{NoFreeRow}
 
 -- the sweep's height is that of p, and h edges are treated or in hand
 module _ (A : Setting) {p h : ℕ} (E : Time (plan A) p h) where
@@ -56,7 +55,7 @@ module _ (A : Setting) {p h : ℕ} (E : Time (plan A) p h) where
     pub held : (k : ℕ) → k < s.records → Held A (s.journal k) (recs s.journal k)
     pub reach_rows : s.reach ≤ A.rows
     pub reach_records : s.reach ≤ s.records
-    pub is_done : s.end ≡ Done
+    pub is_done : s.end ≡ Ok tt
 
   -- where no row is left the rows are few: as many for each level as edges pass, less two
   abbrev pub Crowded : Type 0
@@ -64,7 +63,7 @@ module _ (A : Setting) {p h : ℕ} (E : Time (plan A) p h) where
 
   -- step 1 finds no row for an edge of the list itself, and none is free
   pub record FindsNone (s : Work) (e : LevelEdge ℕ) : Type 0 where
-    pub unfound : up.find room s 0 (up.side_of room.places e) (bottom (up.side_of room.places e) e) ≡ Nothing
+    pub unfound : up.find room s 0 (up.side_of room.places e) (bottom (up.side_of room.places e) e) ≡ None
     pub none_free : up.can_open room s ≡ false
 
   -- a treatment that is done: the invariant again with no row in hand, and so many of the list's edges recorded
@@ -83,7 +82,7 @@ module _ (A : Setting) {p h : ℕ} (E : Time (plan A) p h) where
   -- a treatment's end: done, or at an edge of the list no row
   pub data Outcome (level : ℕ) (s : Work) (e : LevelEdge ℕ) (s' : Work) (l : ℕ) (Q : Table → Naming → Paths → Type 0) : Type 0 where
     went : Went s' l Q → Outcome level s e s' l Q
-    full : level ≡ 0 → s'.end ≡ NoFreeRow → FindsNone s e → Crowded → Outcome level s e s' l Q
+    full : level ≡ 0 → s'.end ≡ Err NoFreeRow → FindsNone s e → Crowded → Outcome level s e s' l Q
 
   -- one edge in hand
   module _ {s : Work} {Y : Table} {B : Naming} {G : Paths} {level : ℕ} {e : LevelEdge ℕ} {x : Owner} (I : Inv s Y B G x) (P : Pre sh p h Y B G level e x) (K : WholeBy level Y G)
@@ -104,12 +103,12 @@ module _ (A : Setting) {p h : ℕ} (E : Time (plan A) p h) where
       pub not_high : s₁.reach ≤ s₁.records + 1
       pub journal_same : s₁.journal ≡ s.journal
       pub records_same : s₁.records ≡ s.records
-      pub is_done₁ : s₁.end ≡ Done
+      pub is_done₁ : s₁.end ≡ Ok tt
       pub born : B.born ≤ B₁.born
       pub old : (b : ℕ) → b < B.born → size G (row b) ≡ 0 → b ≡ c → ⊥
       pub kept₁ : {Y₄ : Table} {B₄ : Naming} {G₄ : Paths} → Kept level x B.born Y₁ Y₄ B₁ B₄ G G₄ → Kept level x B.born Y Y₄ B B₄ G G₄
 
-    pub found-row : (r : ℕ) → up.find room s level side (bottom side e) ≡ At r → (c : ℕ) × Slotted s r c Y B
+    pub found-row : (r : ℕ) → up.find room s level side (bottom side e) ≡ Some r → (c : ℕ) × Slotted s r c Y B
     found-row r q = (
       c,
       record {
@@ -152,7 +151,7 @@ module _ (A : Setting) {p h : ℕ} (E : Time (plan A) p h) where
     abbrev new : Row ℕ
     new = new_row level (bottom side e)
 
-    pub opened-row : up.find room s level side (bottom side e) ≡ Nothing → r₁ < A.rows → Slotted s₁ r₁ B.born (Y' I.state r₁ new) (B' I.state r₁ new)
+    pub opened-row : up.find room s level side (bottom side e) ≡ None → r₁ < A.rows → Slotted s₁ r₁ B.born (Y' I.state r₁ new) (B' I.state r₁ new)
     opened-row nothing l = record {
       state₁ = reborn-state I.state r₁ new;
       tied₁ = reborn-tied I.state r₁ new I.tied;
@@ -234,29 +233,29 @@ module _ (A : Setting) {p h : ℕ} (E : Time (plan A) p h) where
         pub tip_met : HasTip (Y₂ d) (other_side side) level (top side e)
         pub together : apart sh.list (top side e) ≡ false
 
-      pub data Met : Found → Type 0 where
-        none : State sh p h Y₂ (journal_of a) B₁ H → Met Nothing
-        some : {q d : ℕ} → MetRow q d → Met (At q)
+      pub data Met : Option ℕ → Type 0 where
+        none : State sh p h Y₂ (journal_of a) B₁ H → Met None
+        some : {q d : ℕ} → MetRow q d → Met (Some q)
 
-      met-none : ((q : ℕ) → apart sh.list (top side e) ≡ false → HasTip (table_of a q) (other_side side) level (top side e) → ⊥) → Met Nothing
+      met-none : ((q : ℕ) → apart sh.list (top side e) ≡ false → HasTip (table_of a q) (other_side side) level (top side e) → ⊥) → Met None
       met-none clear = none (rw a-journal (unmet N E L.state₁ L.pre₁ side goes c L.slot (λ b l o t.
           let w = a-tied.of_live b l (gone-x (row b) l) in
           clear (B₁.name b) o (rw w.1 (record { used = sym (ap (λ (v : Row ℕ). v.used) w.1) ∙ w.0; level_is = t.0; unfinished = t.1; tip_is = t.2 })))))
 
-      met_some : (q : ℕ) → (q < a.reach) × HasTip (table_of a q) (other_side side) level (top side e) → apart sh.list (top side e) ≡ false → Met (At q)
+      met_some : (q : ℕ) → (q < a.reach) × HasTip (table_of a q) (other_side side) level (top side e) → apart sh.list (top side e) ≡ false → Met (Some q)
       met_some q f o =
           let w = a-tied.to_live q f.1.used in
           some (record { within = f.0; alive = w.1; name_met = w.3; tip_met = rw (row_is names₂ a-tied q f.1.used) at f.1; together = o })
 
-      pub meets : (f : Found) → up.meeting room a level side e ≡ f → Met f
+      pub meets : (f : Option ℕ) → up.meeting room a level side e ≡ f → Met f
       unfolding up.meeting up.pick_meeting
       meets f q = by e.apart (sym (P.parts side goes)) f q
         where
-          by : (o : Bool) → apart sh.list (top side e) ≡ o → (f : Found) → up.pick_meeting o (up.find room a level (other_side side) (top side e)) ≡ f → Met f
-          by true o Nothing q = met-none (λ i c t. not-both o c)
-          by true o (At i) q = let z : ◌≡◌ {A = ℕ} 0 1 = cc in absurd (omega arith)
-          by false o Nothing q = met-none (λ i c t. find_none A.sheet A.rows A.records a level (other_side side) (top side e) q i t)
-          by false o (At i) q = met_some i (find_at A.sheet A.rows A.records a level (other_side side) (top side e) i q) o
+          by : (o : Bool) → apart sh.list (top side e) ≡ o → (f : Option ℕ) → up.pick_meeting o (up.find room a level (other_side side) (top side e)) ≡ f → Met f
+          by true o None q = met-none (λ i c t. not-both o c)
+          by true o (Some i) q = let z : ◌≡◌ {A = ℕ} 0 1 = cc in absurd (omega arith)
+          by false o None q = met-none (λ i c t. find_none A.sheet A.rows A.records a level (other_side side) (top side e) q i t)
+          by false o (Some i) q = met_some i (find_at A.sheet A.rows A.records a level (other_side side) (top side e) i q) o
 
       -- the two ends of a match finished
       module _ {q d : ℕ} (M : MetRow q d) where
@@ -298,6 +297,6 @@ module _ (A : Setting) {p h : ℕ} (E : Time (plan A) p h) where
       journal-room : {Y₄ : Table} {B₄ : Naming} {X : Paths} → State sh p h Y₄ (journal_of a) B₄ X → s₂.records < A.records
       journal-room I₂ = omega (arith, records-small I₂ A.sheet.edges (omega (arith, a-listed, counted)), records-recs a.journal a.records, a-rest.1, A.journal_long)
 
-      pub guards : {f : Found} → Met f → up.attach room s₂ level side e r ≡ a
+      pub guards : {f : Option ℕ} → Met f → up.attach room s₂ level side e r ≡ a
       guards (none I₂) = guarded (journal-room I₂)
       guards (some M) = guarded (journal-room (rw (b-journal M) at (b-state M)))

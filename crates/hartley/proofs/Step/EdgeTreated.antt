@@ -1,6 +1,7 @@
 -- Treating an edge of any level at plain tables keeps the invariant, by induction on the levels left. Levels do not run out, since an edge that does not close has
 -- an outline with room for one level more. An edge passed up never lacks a row, since one was freed for it; where an edge of the list does, all rows are in
 -- use, and they are few: `Crowded`.
+use Rattle.std.specs.Prelude.{Option, Some, None, Result, ⊤, Ok, Err}
 use mathlib.Core.Path.{◌≡◌, refl, ap, sym, ◌∙◌, subst, subst₂}
 use mathlib.Core.Bool.{Bool, true, false, cond}
 use mathlib.Core.List.{List, ◌∷◌}
@@ -15,10 +16,6 @@ use Rattle.laws.proofs.Deciding.{lt-or-le, eq-or-ne, not-both, both_true}
 use Rattle.laws.proofs.Counting.{count-all}
 use Rattle.steps.specs.declared.Side.{Side}
 use Rattle.steps.specs.declared.Side.TheVariants.{Rising, Falling}
-use Rattle.steps.specs.declared.Found.{Found}
-use Rattle.steps.specs.declared.Found.TheVariants.{At, Nothing}
-use Rattle.steps.specs.declared.End.{End}
-use Rattle.steps.specs.declared.End.TheVariants.{Done, NoFreeRow, Overrun}
 use Rattle.steps.specs.Rows as steps
 use Rattle.steps.specs.Rows.{other_side, on, Row, Record, LevelEdge, Room}
 use Rattle.steps.specs.SweepUp as up
@@ -48,8 +45,10 @@ use Rattle.hartley.proofs.Step.TableSeen.{view_in, view-used, used-view}
 use Rattle.hartley.proofs.Step.StepsSeen.{Work, table_of, journal_of, find_none, open_is, opens, spare_low, attached, attached-record, joined, joined-rest, free-table, free-rest, closed, close-is, closed-rest, closed-record, closed-journal}
 use Rattle.hartley.proofs.Step.Given.{Held, NameFits, Setting, held_more, laws, plan, room_in}
 use Rattle.hartley.proofs.Step.EdgeInHand.{Inv, Crowded, Went, Spare, Outcome, went, full, Slotted, found-row, opened-row, slot-journal, H, Y₂, a-rest, a-listed, a-tied, MetRow, Met, none, some, meets, b-journal, b-state, b-tied, guards}
+use Rattle.steps.specs.declared.Halt.{Halt}
+use Rattle.steps.specs.declared.Halt.TheVariants.{NoFreeRow, Overrun}
 
-afterwards : (x y z : Work) (d : End) → x.end ≡ d → up.after_done x.end y z ≡ up.after_done d y z
+afterwards : (x y z : Work) (d : Result ⊤ Halt) → x.end ≡ d → up.after_done x.end y z ≡ up.after_done d y z
 afterwards x y z d e = ap (λ t. up.after_done t y z) e
 
 -- the sweep's height is that of p, and h edges are treated or in hand
@@ -259,9 +258,9 @@ module _ (A : Setting) {p h : ℕ} (E : Time (plan A) p h) where
 
             by : (t : Bool) → eqb q r ≡ t → Ended (cond t u (up.after_done u.end u (up.pass_up room next u r)))
             by true f = once (same-birth (eqb-true q r f)) u first-pass
-            by false f = subst Ended (sym (afterwards u u (up.pass_up room next u r) Done first-pass.inv.is_done)) (twice (other-birth (eqb-false q r f)) u first-pass)
+            by false f = subst Ended (sym (afterwards u u (up.pass_up room next u r) (Ok tt) first-pass.inv.is_done)) (twice (other-birth (eqb-false q r f)) u first-pass)
 
-      met-outcome : {f : Found} → Met A E I P K counted side goes L f → Ended (up.meet room next a₁ side r f)
+      met-outcome : {f : Option ℕ} → Met A E I P K counted side goes L f → Ended (up.meet room next a₁ side r f)
       unfolding up.meet
       met-outcome (none I₂) = record {
         births = Y₂ A E I P K counted side goes L;
@@ -282,7 +281,7 @@ module _ (A : Setting) {p h : ℕ} (E : Time (plan A) p h) where
 
       on-row-is : up.attach room s₂ level side e r ≡ a₁ → up.on_row room next s₂ level side e r ≡ up.meet room next a₁ side r (up.meeting room a₁ level side e)
       unfolding up.on_row
-      on-row-is q = ap (λ v. up.after_done v.end v (up.meet room next v side r (up.meeting room v level side e))) q ∙ afterwards a₁ a₁ (up.meet room next a₁ side r (up.meeting room a₁ level side e)) Done (rest.2 ∙ L.is_done₁)
+      on-row-is q = ap (λ v. up.after_done v.end v (up.meet room next v side r (up.meeting room v level side e))) q ∙ afterwards a₁ a₁ (up.meet room next a₁ side r (up.meeting room a₁ level side e)) (Ok tt) (rest.2 ∙ L.is_done₁)
 
       pub on-row-outcome : Ended (up.on_row room next s₂ level side e r)
       on-row-outcome =
@@ -296,7 +295,7 @@ module _ (A : Setting) {p h : ℕ} (E : Time (plan A) p h) where
     opens_by = opens A.sheet A.rows A.records s level (bottom side e) I.reach_rows
 
     -- an edge of the list that finds no row where none is free: all rows are in use
-    module _ (nothing : up.find room s level side (bottom side e) ≡ Nothing) (none_free : A.rows ≤ r₁) (flat : level ≡ 0) where
+    module _ (nothing : up.find room s level side (bottom side e) ≡ None) (none_free : A.rows ≤ r₁) (flat : level ≡ 0) where
       all-used : (i : ℕ) → i < A.rows → (table_of s i).used ≡ true
       all-used i l = ⊎_elim
           (λ h. absurd (omega (arith, h.0, none_free, I.reach_rows)))
@@ -328,18 +327,18 @@ module _ (A : Setting) {p h : ℕ} (E : Time (plan A) p h) where
 
     -- step 1 and what follows
     module _ (spare : Spare A E level s) (is-side : side ≡ up.side_of room.places e) where
-      no_row : up.find room s level side (bottom side e) ≡ Nothing → A.rows ≤ r₁ → up.can_open room s ≡ false → Ends (up.ended NoFreeRow s)
+      no_row : up.find room s level side (bottom side e) ≡ None → A.rows ≤ r₁ → up.can_open room s ≡ false → Ends (up.ended (Err NoFreeRow) s)
       no_row q l c = ⊎_elim above (λ z. let f : level ≡ 0 = omega arith in full f refl (record { unfound = rw (f, is-side) at q; none_free = c }) (crowded q l f)) (lt-or-le 0 level)
         where
-          above : 0 < level → Ends (up.ended NoFreeRow s)
+          above : 0 < level → Ends (up.ended (Err NoFreeRow) s)
           above z = let w = spare z in absurd (omega (arith, l, I.reach_rows, spare_low A.sheet A.rows A.records s level (bottom side e) w.0 w.1 w.2))
 
-      chain-outcome : (f : Found) → up.find room s level side (bottom side e) ≡ f → Ends (up.in_chain room next s level side e f)
+      chain-outcome : (f : Option ℕ) → up.find room s level side (bottom side e) ≡ f → Ends (up.in_chain room next s level side e f)
       unfolding up.in_chain
-      chain-outcome (At r) q = let o = found-row A E I P K counted side goes r q in went (on-row-outcome o.1)
-      chain-outcome Nothing q = by (up.can_open room s) refl
+      chain-outcome (Some r) q = let o = found-row A E I P K counted side goes r q in went (on-row-outcome o.1)
+      chain-outcome None q = by (up.can_open room s) refl
         where
-          by : (t : Bool) → up.can_open room s ≡ t → Ends (cond t (up.on_row room next (up.open_row room s r₁ level (bottom side e)) level side e r₁) (up.ended NoFreeRow s))
+          by : (t : Bool) → up.can_open room s ≡ t → Ends (cond t (up.on_row room next (up.open_row room s r₁ level (bottom side e)) level side e r₁) (up.ended (Err NoFreeRow) s))
           by true t = went (on-row-outcome (opened-row A E I P K counted side goes q (ltb-true r₁ A.rows (sym opens_by ∙ t))))
           by false t = no_row q (ltb-false r₁ A.rows (sym opens_by ∙ t)) t
 
@@ -426,7 +425,7 @@ module _ (A : Setting) {p h : ℕ} (E : Time (plan A) p h) where
   unfolding up.treat
   treat-outcome zero level q s e Y B G x I P K spare few = by (eqb e.tail e.head) refl
     where
-      by : (t : Bool) → eqb e.tail e.head ≡ t → TreatEnds level s e Y B G x (cond t (up.close room s level e) (up.ended Overrun s))
+      by : (t : Bool) → eqb e.tail e.head ≡ t → TreatEnds level s e Y B G x (cond t (up.close room s level e) (up.ended (Err Overrun) s))
       by true t = shuts level s e Y B G x I P K few (eqb-true e.tail e.head t)
       by false t = absurd (omega (arith, level-left I P (eqb-false e.tail e.head t), q))
   treat-outcome (suc left) level q s e Y B G x I P K spare few = by (treat-outcome left (suc level) (omega arith)) (eqb e.tail e.head) refl

@@ -1,5 +1,6 @@
 -- What each thing that the steps do to a state is to what the theory sees of it: the searches, a row opened, an edge put into a row, two ends finished, a row
 -- freed, an outline closed. Each is the steps' definition read once.
+use Rattle.std.specs.Prelude.{Some, None, Err}
 use mathlib.Core.Path.{◌≡◌, refl, ap, ◌∙◌}
 use mathlib.Core.Bool.{Bool, true, false, ◌&&◌, cond}
 use mathlib.Core.List.{List, ◌∷◌}
@@ -12,8 +13,6 @@ use borrow.Author.Tests.{lt-ltb, le-leb}
 use Rattle.laws.proofs.Deciding.{not-both}
 use Rattle.sheet.specs.Edges.{Drawing}
 use Rattle.steps.specs.declared.Side.{Side}
-use Rattle.steps.specs.declared.Found.TheVariants.{At, Nothing}
-use Rattle.steps.specs.declared.End.TheVariants.{Overrun}
 use Rattle.steps.specs.Rows.{other_side, on, Row, Record, LevelEdge, Room, closing, lowest_free}
 use Rattle.steps.specs.SweepUp as up
 use Rattle.steps.specs.SweepUp.{State, has_tip, signed, most_length}
@@ -29,6 +28,7 @@ use Rattle.hartley.proofs.Invariant.TableTied.{Table}
 use Rattle.hartley.proofs.Step.RowOfStepOne.{HasTip}
 use Rattle.hartley.proofs.Invariant.Branches.{lengthened, matched}
 use Rattle.hartley.proofs.Step.TableSeen.{view, view_in, view-above, view-opened, view-lengthened, view-matched, view-freed, tip-of, tip-to}
+use Rattle.steps.specs.declared.Halt.TheVariants.{Overrun}
 
 -- a state at plain tables, and what the theory sees of it
 abbrev pub Work : Type 0
@@ -45,13 +45,13 @@ module _ (sh : Drawing) (n m : ℕ) where
   room = plain_room sh n m
 
   -- steps 1 and 4
-  pub find_at : (s : Work) (level : ℕ) (side : Side) (p r : ℕ) → up.find room s level side p ≡ At r → (r < s.reach) × HasTip (table_of s r) side level p
+  pub find_at : (s : Work) (level : ℕ) (side : Side) (p r : ℕ) → up.find room s level side p ≡ Some r → (r < s.reach) × HasTip (table_of s r) side level p
   unfolding up.find plain_table
   find_at s level side p r e =
       let f = found_at (λ r. (s.rows r).used && has_tip (places_of sh) level side p (s.rows r)) s.reach r e in
       (f.0, tip-of sh s.rows s.reach level p side r f.0 f.1)
 
-  pub find_none : (s : Work) (level : ℕ) (side : Side) (p : ℕ) → up.find room s level side p ≡ Nothing → (r : ℕ) → HasTip (table_of s r) side level p → ⊥
+  pub find_none : (s : Work) (level : ℕ) (side : Side) (p : ℕ) → up.find room s level side p ≡ None → (r : ℕ) → HasTip (table_of s r) side level p → ⊥
   unfolding up.find plain_table
   find_none s level side p e r t =
       let h = tip-to sh s.rows s.reach level p side r t in
@@ -109,7 +109,7 @@ module _ (sh : Drawing) (n m : ℕ) where
 
     pub attach-is : s.records < m → up.longer room side (up.look room s r) e ≤ most_length → up.attach room s level side e r ≡ attached
     unfolding up.attach
-    attach-is a b = ap (λ t. cond t attached (up.ended Overrun s)) (both (lt-ltb _ _ a) (le-leb _ _ b))
+    attach-is a b = ap (λ t. cond t attached (up.ended (Err Overrun) s)) (both (lt-ltb _ _ a) (le-leb _ _ b))
       where
         both : {x y : Bool} → x ≡ true → y ≡ true → (x && y) ≡ true
         both p q = rw (p, q)
@@ -158,7 +158,7 @@ module _ (sh : Drawing) (n m : ℕ) where
 
     pub close-is : s.records < m → up.close room s level e ≡ closed
     unfolding up.close
-    close-is a = ap (λ t. cond t closed (up.ended Overrun s)) (lt-ltb _ _ a)
+    close-is a = ap (λ t. cond t closed (up.ended (Err Overrun) s)) (lt-ltb _ _ a)
 
     pub closed-rest : (table_of closed ≡ table_of s) × (closed.reach ≡ s.reach) × (closed.records ≡ s.records + 1) × (closed.end ≡ s.end)
     unfolding up.write

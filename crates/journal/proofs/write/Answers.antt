@@ -1,28 +1,12 @@
--- `journal::write` meets its contract. Four stores, one behind the other, are a run of stores.
-use Prim.Native.Nat.{◌*◌}
-use mathlib.Core.List.{[], ◌∷◌}
-use native.Mathlib.Omega.{arith}
-use lib.ListN.{length-set}
-use Rattle.laws.proofs.Bits.{read_back}
-use Rattle.laws.proofs.Sets.{stores-are-sets}
-use Rattle.steps.specs.Swept.{numbers_per_record}
+-- `journal::write` meets its contract. The copy is the run of stores of `written_in`.
+use Rattle.std.proofs.Common.{arith, ◌∙◌}
+use Rattle.std.proofs.lemmas.Int.{to_z-of_z}
+use Rattle.laws.proofs.Sets.{copied-sets}
+use Rattle.journal.specs.Layout.{chain_of, written_in}
+use Rattle.journal.proofs.Writing.{numbers}
 use Rattle.journal.proofs.write.Goals as goal
 
-pub bounds-journal-b-2 : goal.bounds-journal-b-2
-bounds-journal-b-2 c = simp length-set (omega arith)
-
-pub bounds-journal-b-3 : goal.bounds-journal-b-3
-bounds-journal-b-3 c = simp length-set (omega arith)
-
-pub bounds-journal-b-4 : goal.bounds-journal-b-4
-bounds-journal-b-4 c = simp length-set (omega arith)
-
 pub returns : goal.returns
+unfolding written_in
 returns c = let a = c.args in
-    rw (
-      read_back a.level c.ranges.level.sfits,
-      read_back a.name c.ranges.name.sfits,
-      read_back a.row c.ranges.row.sfits,
-      read_back a.offset c.ranges.offset.sfits,
-    )
-    (stores-are-sets a.journal.now (numbers_per_record * a.k) a.level (a.name ∷ a.row ∷ a.offset ∷ []))
+    copied-sets _ _ (numbers (record { level = a.level; name = a.name; chain = chain_of a.chain; offset = a.offset })) _ _ (c.copy_from_slice.ensures.after ∙ grind (arith, to_z-of_z)) (omega arith) (omega arith)

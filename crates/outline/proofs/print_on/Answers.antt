@@ -1,7 +1,7 @@
 -- `print_on` has the output in front of the page: the page is never too short.
-use borrow.Author.Rules.{rules}
-use Rattle.printing.proofs.EnoughPage.{never-too-short}
+use Rattle.std.proofs.Common.{ap, rules, is_ok}
+use Rattle.printing.proofs.EnoughPage.{always-fits}
 use Rattle.outline.proofs.print_on.Goals as goal
 
-pub returns-in-TooShort : goal.returns-in-TooShort
-returns-in-TooShort c = absurd (never-too-short c.print_sheet.ensures (search rules) c.in-TooShort.is)
+pub unwrap-requires : goal.unwrap-requires
+unwrap-requires c = ap is_ok (always-fits c.print_sheet.ensures (search rules))

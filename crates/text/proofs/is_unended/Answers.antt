@@ -1,9 +1,11 @@
 -- `is_unended` looks at the last byte, where there is one.
-use Rattle.text.proofs.Newlines.{nothing-unended, last-seen}
+use Rattle.std.proofs.Common.{arith}
+use Rattle.std.proofs.lemmas.Grind.{common_steps}
+use Rattle.std.proofs.lemmas.Option.{gets}
+use Rattle.text.specs.Numbers.{byte_at}
+use Rattle.text.specs.Texts.{newline_at, unended}
 use Rattle.text.proofs.is_unended.Goals as goal
 
-pub returns-then-n-eq0 : goal.returns-then-n-eq0
-returns-then-n-eq0 c = nothing-unended _ c.if-n-eq0.true
-
 pub returns : goal.returns
-returns c = last-seen _ c.if-n-eq0.false c.byte_at.ensures
+unfolding unended newline_at byte_at
+returns c = grind (arith, common_steps, gets)

@@ -1,43 +1,32 @@
 -- `turns::turn_numbers` meets its contract: 12, 13, 14, and what is accepted, each by its law.
-use borrow.Author.Rules.{rules}
-use native.Mathlib.Omega.{arith}
-use mathlib.Core.Path.{refl, ◌∙◌}
+use Rattle.std.proofs.Common.{refl, arith}
+use mathlib.Core.Path.{sym, ◌∙◌}
 use Rattle.sheet.specs.TurnList.{number_lists}
 use Rattle.turns.proofs.Answering.{numbers-without, numbers-again, numbers-gap, numbers-accepted}
-use Rattle.turns.proofs.Accepting.{blank-new, ordered-turns, last-largest}
-use Rattle.sheet.specs.Amounts.{most_edges}
+use Rattle.turns.proofs.Accepting.{ordered-turns, last-largest}
+use Rattle.turns.proofs.Keys.{all-rising}
 use Rattle.turns.proofs.turn_numbers.Goals as goal
 
-pub first_again-again-requires-clause-sizes : goal.first_again-again-requires-clause-sizes
-first_again-again-requires-clause-sizes c = c.requires.sizes
-
-pub first_again-again-requires-clause-keys : goal.first_again-again-requires-clause-keys
-first_again-again-requires-clause-keys c = c.order_keys.ensures
-
-pub first_again-again-requires-clause-blank : goal.first_again-again-requires-clause-blank
-first_again-again-requires-clause-blank c = blank-new _ most_edges (search rules)
-
-pub returns-then-none-n-clause-answer : goal.returns-then-none-n-clause-answer
-returns-then-none-n-clause-answer c = numbers-without _ _ c.first_without-none.ensures c.if-none-n.true
-
-pub returns-then-none-n-clause-turns : goal.returns-then-none-n-clause-turns
-returns-then-none-n-clause-turns c = refl
-
-pub returns-then-again-n-clause-answer : goal.returns-then-again-n-clause-answer
-returns-then-again-n-clause-answer c = numbers-again _ _ c.first_without-none.ensures c.if-none-n.false c.first_again-again.ensures.again c.if-again-n.true
-
-pub returns-then-again-n-clause-turns : goal.returns-then-again-n-clause-turns
-returns-then-again-n-clause-turns c = refl
-
-pub returns-then-missing-n-clause-answer : goal.returns-then-missing-n-clause-answer
-returns-then-missing-n-clause-answer c = numbers-gap _ _ c.first_without-none.ensures c.if-none-n.false c.first_again-again.ensures.again c.if-again-n.false c.first_gap-missing.ensures c.if-missing-n.true
-
-pub returns-then-missing-n-clause-turns : goal.returns-then-missing-n-clause-turns
-returns-then-missing-n-clause-turns c = refl
-
-pub returns : goal.returns
+pub invariant_of-keys : goal.invariant_of-keys
 unfolding number_lists
-returns c = record {
-  answer = numbers-accepted _ _ c.first_without-none.ensures c.if-none-n.false c.first_again-again.ensures.again c.if-again-n.false c.first_gap-missing.ensures c.if-missing-n.false (c.last_polygon.ensures ∙ last-largest c.order_keys.ensures);
-  turns = ordered-turns c.order_keys.ensures (c.first_again-again.ensures.order c.if-again-n.false) _ (search rules) (λ p l. c.write_turns.ensures p (omega arith));
-}
+invariant_of-keys c = record { rising = all-rising c.order_keys.ensures.keyed c.order_keys.ensures.long }
+
+pub returns-in-Some-clause-answer : goal.returns-in-Some-clause-answer
+returns-in-Some-clause-answer c = numbers-without _ _ c.in-Some.ensures
+
+pub returns-in-Some-first_again-clause-answer : goal.returns-in-Some-first_again-clause-answer
+returns-in-Some-first_again-clause-answer c = numbers-again _ _ (c.in_default.ensures) c.in-Some-first_again.ensures.again
+
+pub returns-in-Some-first_gap-clause-answer : goal.returns-in-Some-first_gap-clause-answer
+returns-in-Some-first_gap-clause-answer c = numbers-gap _ _ (c.in_default.ensures) (c.in_default-first_again.ensures.again) c.in-Some-first_gap.ensures
+
+pub returns-clause-answer : goal.returns-clause-answer
+unfolding number_lists
+returns-clause-answer c =
+    numbers-accepted _ _ (c.in_default.ensures) (c.in_default-first_again.ensures.again) (c.in_default-first_gap.ensures) (c.last_polygon.ensures ∙ rw c.order_keys.ensures.long (last-largest c.order_keys.ensures.keyed))
+
+pub returns-clause-turns : goal.returns-clause-turns
+unfolding number_lists
+returns-clause-turns c =
+    let all = ordered-turns c.order_keys.ensures.keyed (c.in_default-first_again.ensures.order refl) c.first_again.new.order (omega arith) (λ p l. refl) in
+    rw (sym c.copy_from_slice.ensures.after) at all

@@ -1,12 +1,8 @@
--- `checks::corners::walk` meets its contract. The loop's invariant: the ends before `from` have lower places than those from there on, and what is to be found
--- and marked at them is.
-use Prim.Native.Nat.{◌≤◌, ◌-◌, ◌*◌}
-use Rattle.checks.specs.Places.{Visited}
+-- `checks::corners::walk` meets its contract. The loop's invariant: what is to be found and marked at the ends before the next place is.
+use mathlib.Core.Path.{◌≡◌}
+use Rattle.sheet.specs.Edges.{edges_in}
 use Rattle.checks.specs.Corners.{CornersSoFar}
 use Rattle.checks.proofs.corners.walk.Given as goal
 
 abbrev pub invariant-loop-from : goal.invariant-loop-from
-invariant-loop-from l = (l.from ≤ 2 * l.n) × Visited l.words (2 * l.n) l.from × CornersSoFar l.edges l.words l.n l.from l.found l.apart
-
-abbrev pub decreases-loop-from : goal.decreases-loop-from
-decreases-loop-from l = 2 * l.n - l.from
+invariant-loop-from l = (l.from-iterator.words.now ≡ l.words) × CornersSoFar l.edges l.words (edges_in l.edges) l.from-iterator.from l.found l.apart

@@ -5,8 +5,8 @@ use Rattle.checks.proofs.faults.alone_at_fault.Goals as goal
 
 pub returns-then-past_limits : goal.returns-then-past_limits
 unfolding fault_alone
-returns-then-past_limits c = rw (sym c.past_limits.ensures ∙ c.if-past_limits.true)
+returns-then-past_limits c = rw (sym c.past_limits.ensures ∙ c.if-past_limits.true) c.if-past_limits.true
 
-pub returns : goal.returns
+pub returns-else-past_limits : goal.returns-else-past_limits
 unfolding fault_alone
-returns c = rw (sym c.past_limits.ensures ∙ c.if-past_limits.false) c.equal_ends.ensures
+returns-else-past_limits c = rw (sym c.past_limits.ensures ∙ c.if-past_limits.false) c.equal_ends.ensures

@@ -1,21 +1,12 @@
--- `checks::faults::check` meets its contract.
-use mathlib.Core.Path.{ap, ◌∙◌}
-use borrow.Author.Rules.{rules}
-use Rattle.sheet.specs.declared.Check.TheVariants.{Passed, Refused}
-use Rattle.sheet.specs.Edges.{edges_in}
-use Rattle.sheet.specs.Answers.{fault_of}
+-- `checks::faults::check` meets its contract: the first edge at fault is refused.
+use Rattle.sheet.specs.Answers.{edge_fault}
 use Rattle.checks.specs.Stages.{edges_checked}
-use Rattle.checks.proofs.Answering.{refuse-here, refuse-not}
+use Rattle.checks.proofs.Answering.{first-within}
 use Rattle.checks.proofs.faults.check.Goals as goal
 
-pub fault_of-requires : goal.fault_of-requires
-unfolding edges_in
-fault_of-requires c = search rules
-
-pub returns-then-fault-n : goal.returns-then-fault-n
-unfolding edges_checked edges_in
-returns-then-fault-n c = ap Refused c.fault_of.ensures ∙ refuse-here _ _ _ c.first_fault-fault.ensures (fault_of c.args.edges.now) Passed c.if-fault-n.true
+pub refuse-requires : goal.refuse-requires
+refuse-requires c = (c.requires, first-within _ _ _ c.first_fault.ensures)
 
 pub returns : goal.returns
-unfolding edges_checked edges_in
-returns c = refuse-not _ _ _ c.first_fault-fault.ensures (fault_of c.args.edges.now) Passed c.if-fault-n.false
+unfolding edges_checked
+returns c = c.refuse.ensures (edge_fault c.args.edges.now) c.first_fault.ensures

@@ -5,8 +5,8 @@ use Rattle.checks.proofs.faults.past_limits.Goals as goal
 
 pub returns-then-past_range : goal.returns-then-past_range
 unfolding limits_passed
-returns-then-past_range c = rw (sym c.past_range.ensures ∙ c.if-past_range.true)
+returns-then-past_range c = rw (sym c.past_range.ensures ∙ c.if-past_range.true) c.if-past_range.true
 
-pub returns : goal.returns
+pub returns-else-past_range : goal.returns-else-past_range
 unfolding limits_passed
-returns c = rw (sym c.past_range.ensures ∙ c.if-past_range.false) c.film_past_range.ensures
+returns-else-past_range c = rw (sym c.past_range.ensures ∙ c.if-past_range.false) c.film_past_range.ensures

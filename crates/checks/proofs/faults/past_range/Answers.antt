@@ -3,11 +3,12 @@ use mathlib.Core.Path.{sym, ap, ◌∙◌}
 use mathlib.Core.Bool.{not}
 use Rattle.checks.specs.Faults.{end_past_range}
 use Rattle.checks.proofs.faults.past_range.Goals as goal
-
-pub returns-then-in_range : goal.returns-then-in_range
-unfolding end_past_range
-returns-then-in_range c = rw (sym c.in_range.ensures ∙ c.if-in_range.true) (ap not c.in_range-then-in_range.ensures)
+use Rattle.checks.proofs.faults.past_range.Goals.{then-in_range, else-in_range}
 
 pub returns : goal.returns
 unfolding end_past_range
-returns c = rw (sym c.in_range.ensures ∙ c.if-in_range.false)
+returns c =
+    elim c.if-in_range.branch [
+      | then-in_range w ↦ rw (sym c.in_range.ensures ∙ w.if-in_range.true) (ap not (w.result-is ∙ w.in_range-then-in_range.ensures))
+      | else-in_range w ↦ rw (sym c.in_range.ensures ∙ w.if-in_range.false) (ap not (w.result-is ∙ w.if-in_range.false))
+    ]

@@ -10,8 +10,8 @@ use Rattle.finding.proofs.free.give_back.Goals as goal
 pub returns-then-w-counts : goal.returns-then-w-counts
 unfolding given_back_in
 returns-then-w-counts c = let a = c.args in
-    rw (c.lower_of.ensures, get_or-set_other a.counts.now 2 (word_at a.r) _ 0 (λ e. omega arith), one_shifted 64 (a.r % 64) (omega arith))
+    rw (c.min.ensures, get_or-set_other a.counts.now 2 (word_at a.r) _ 0 (λ e. omega arith), one_shifted 64 (a.r % 64) (omega arith))
 
 pub returns-else-w-counts : goal.returns-else-w-counts
 unfolding given_back_in
-returns-else-w-counts c = rw c.lower_of.ensures (sym (set_out _ _ _ (rw c.lower_of.ensures at c.if-w-counts.false)))
+returns-else-w-counts c = rw c.min.ensures (sym (set_out _ _ _ (rw c.min.ensures at c.if-w-counts.false)))

@@ -1,21 +1,13 @@
 -- `finding::index::owner` meets its contract. By whether the index is long enough.
-use Prim.Native.Nat.{◌/◌}
-use lib.ListN.{length}
-use borrow.Author.Tests.{lt-ltb, le-ltb, le-leb, lt-leb}
+use Rattle.std.proofs.Common.{arith}
+use Rattle.std.proofs.lemmas.Grind.{common_steps}
 use Rattle.finding.specs.Index.{owner_in}
 use Rattle.finding.proofs.index.owner.Goals as goal
 
-pub returns-then-index-i : goal.returns-then-index-i
+pub returns-then-peak-index : goal.returns-then-peak-index
 unfolding owner_in
-returns-then-index-i c = let a = c.args in
-    rw (le-ltb a.i (length a.index.now) c.if-index-i.true)
+returns-then-peak-index c = grind (arith, common_steps)
 
-pub returns-then-index-peak : goal.returns-then-index-peak
+pub returns-else-i-index : goal.returns-else-i-index
 unfolding owner_in
-returns-then-index-peak c = let a = c.args in
-    rw (lt-ltb a.i (length a.index.now) c.if-index-i.false, lt-leb a.peak (length a.index.now / 6) c.if-index-peak.true)
-
-pub returns : goal.returns
-unfolding owner_in
-returns c = let a = c.args in
-    rw (lt-ltb a.i (length a.index.now) c.if-index-i.false, le-leb a.peak (length a.index.now / 6) c.if-index-peak.false)
+returns-else-i-index c = grind (arith, common_steps)

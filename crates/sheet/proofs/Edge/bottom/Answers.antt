@@ -1,12 +1,9 @@
--- `Edge::bottom` meets its contract: the tail of an up edge, the head of any other.
-use mathlib.Core.Path.{sym, ◌∙◌}
+-- `Edge::bottom` meets its contract: of two points the lesser one is the lower.
+use mathlib.Core.Path.{◌∙◌}
 use Rattle.sheet.specs.Points.{is_up, bottom_of}
+use Rattle.sheet.proofs.Comparing.{min-lower}
 use Rattle.sheet.proofs.Edge.bottom.Goals as goal
 
-pub returns-then-below : goal.returns-then-below
+pub returns : goal.returns
 unfolding bottom_of is_up
-returns-then-below c = rw (sym c.below.ensures ∙ c.if-below.true)
-
-pub returns-else-below : goal.returns-else-below
-unfolding bottom_of is_up
-returns-else-below c = rw (sym c.below.ensures ∙ c.if-below.false)
+returns c = c.min.ensures ∙ min-lower c.args.self.tail c.args.self.head

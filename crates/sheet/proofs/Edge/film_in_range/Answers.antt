@@ -1,14 +1,10 @@
--- `Edge::film_in_range` meets its contract: both limits are compared, the lower one first.
+-- `Edge::film_in_range` meets its contract: the range holds the films from 0 on.
+use mathlib.Core.Path.{◌∙◌}
+use lib.IntN.{pos}
 use Rattle.sheet.specs.Points.{is_film}
-use Rattle.sheet.proofs.Signed.{read_back}
+use Rattle.sheet.proofs.Comparing.{lt-int, le-int}
 use Rattle.sheet.proofs.Edge.film_in_range.Goals as goal
 
-pub returns-then-film-ge0 : goal.returns-then-film-ge0
+pub returns : goal.returns
 unfolding is_film
-returns-then-film-ge0 c = let b = read_back c.args.self.film c.struct_told-1.given.1.1.0.1 in
-    rw (b, rw b at c.if-film-ge0.true)
-
-pub returns-else-film-ge0 : goal.returns-else-film-ge0
-unfolding is_film
-returns-else-film-ge0 c = let b = read_back c.args.self.film c.struct_told-1.given.1.1.0.1 in
-    rw (b, rw b at c.if-film-ge0.false)
+returns c = c.contains.ensures.value ∙ rw (le-int (pos 0) c.args.self.film, lt-int c.args.self.film (pos 256))

@@ -1,12 +1,9 @@
--- `Edge::top` meets its contract: the head of an up edge, the tail of any other.
-use mathlib.Core.Path.{sym, ◌∙◌}
+-- `Edge::top` meets its contract: of two points the greater one is the higher.
+use mathlib.Core.Path.{◌∙◌}
 use Rattle.sheet.specs.Points.{is_up, top_of}
+use Rattle.sheet.proofs.Comparing.{max-higher}
 use Rattle.sheet.proofs.Edge.top.Goals as goal
 
-pub returns-then-below : goal.returns-then-below
+pub returns : goal.returns
 unfolding top_of is_up
-returns-then-below c = rw (sym c.below.ensures ∙ c.if-below.true)
-
-pub returns-else-below : goal.returns-else-below
-unfolding top_of is_up
-returns-else-below c = rw (sym c.below.ensures ∙ c.if-below.false)
+returns c = c.max.ensures ∙ max-higher c.args.self.tail c.args.self.head

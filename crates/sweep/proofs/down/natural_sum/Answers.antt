@@ -1,21 +1,14 @@
 -- `sweep::down::natural_sum` meets its contract. The sum in 64 bits, and its sign.
-use Rattle.sweep.proofs.Sums.{widens, wide_fits, negative-sum, natural_casts, natural-value}
+use mathlib.Core.Path.{◌∙◌}
+use Rattle.sheet.proofs.Signed.{read_back}
+use Rattle.sweep.proofs.Sums.{natural-or, wide, in64}
 use Rattle.sweep.proofs.down.natural_sum.Goals as goal
 
-pub overflow_cast-z : goal.overflow_cast-z
-overflow_cast-z c = widens c.args.a c.ranges.a
-
-pub overflow_cast-z-2 : goal.overflow_cast-z-2
-overflow_cast-z-2 c = widens c.args.b c.ranges.b
-
-pub overflow_add-z : goal.overflow_add-z
-overflow_add-z c = wide_fits c.args.a c.args.b c.ranges.a c.ranges.b
-
-pub returns-then-z-lt0 : goal.returns-then-z-lt0
-returns-then-z-lt0 c = negative-sum c.args.a c.args.b c.ranges.a c.ranges.b c.if-z-lt0.true
-
-pub overflow_cast-result : goal.overflow_cast-result
-overflow_cast-result c = natural_casts c.args.a c.args.b c.ranges.a c.ranges.b c.if-z-lt0.false
-
 pub returns : goal.returns
-returns c = natural-value c.args.a c.args.b c.ranges.a c.ranges.b c.if-z-lt0.false
+returns c =
+    let a = read_back c.args.a c.ranges.a.sfits in
+    let b = read_back c.args.b c.ranges.b.sfits in
+    let wa = wide c.args.a c.ranges.a in
+    let wb = wide c.args.b c.ranges.b in
+    let o = rw (c.from.ensures, c.from-2.ensures, a, b, wa, wb, in64 c.args.a c.args.b c.ranges.a c.ranges.b) at c.try_from.ensures in
+    c.unwrap_or.ensures ∙ natural-or c.args.a c.args.b c.ranges.a c.ranges.b c.try_from.result o

@@ -1,55 +1,76 @@
 -- `line` is five fields, each read or refused: the definition at each of the six ways out.
-use Rattle.text.specs.Said.{and_then}
-use Rattle.text.specs.Lines.{line_at}
+use Rattle.std.proofs.Common.{rules, ◌∙◌}
 use Rattle.std.proofs.lemmas.Int.{to_z-of_z}
 use mir.Syntax.{w32}
 use mir.Val.{SFits}
-use borrow.Author.Rules.{rules}
+use Rattle.text.specs.Said.{and_then}
+use Rattle.text.specs.Lines.{line_at}
 use Rattle.text.proofs.Cursor.line.Goals as goal
 
-pub returns-in_default : goal.returns-in_default
+pub returns-in_err-tail_x-clause-says : goal.returns-in_err-tail_x-clause-says
 unfolding line_at and_then
-returns-in_default c = rw (← c.in_default.ensures)
+returns-in_err-tail_x-clause-says c = rw (c.from_residual.ensures, ← c.in_err-tail_x.ensures.says)
 
-pub returns-in_default-field : goal.returns-in_default-field
+pub returns-in_err-tail_y-clause-says : goal.returns-in_err-tail_y-clause-says
 unfolding line_at and_then
-returns-in_default-field c = rw (← c.in-Value.ensures, ← c.in_default-field.ensures)
+returns-in_err-tail_y-clause-says c =
+    let tail_y = rw c.in_ok-tail_x.ensures.text at c.in_err-tail_y.ensures.says in
+    rw (c.from_residual-in_err-tail_y.ensures, ← c.in_ok-tail_x.ensures.says, ← tail_y)
 
-pub returns-in_default-field-2 : goal.returns-in_default-field-2
+pub returns-in_err-head_x-clause-says : goal.returns-in_err-head_x-clause-says
 unfolding line_at and_then
-returns-in_default-field-2 c = rw (← c.in-Value.ensures, ← c.in-Value-field.ensures, ← c.in_default-field-2.ensures)
+returns-in_err-head_x-clause-says c =
+    let third = c.in_ok-tail_y.ensures.text ∙ c.in_ok-tail_x.ensures.text in
+    let tail_y = rw c.in_ok-tail_x.ensures.text at c.in_ok-tail_y.ensures.says in
+    let head_x = rw third at c.in_err-head_x.ensures.says in
+    rw (c.from_residual-in_err-head_x.ensures, ← c.in_ok-tail_x.ensures.says, ← tail_y, ← head_x)
 
-pub returns-in_default-field-3 : goal.returns-in_default-field-3
+pub returns-in_err-head_y-clause-says : goal.returns-in_err-head_y-clause-says
 unfolding line_at and_then
-returns-in_default-field-3 c = rw (← c.in-Value.ensures, ← c.in-Value-field.ensures, ← c.in-Value-field-2.ensures, ← c.in_default-field-3.ensures)
+returns-in_err-head_y-clause-says c =
+    let third = c.in_ok-tail_y.ensures.text ∙ c.in_ok-tail_x.ensures.text in
+    let fourth = c.in_ok-head_x.ensures.text ∙ third in
+    let tail_y = rw c.in_ok-tail_x.ensures.text at c.in_ok-tail_y.ensures.says in
+    let head_x = rw third at c.in_ok-head_x.ensures.says in
+    let head_y = rw fourth at c.in_err-head_y.ensures.says in
+    rw (c.from_residual-in_err-head_y.ensures, ← c.in_ok-tail_x.ensures.says, ← tail_y, ← head_x, ← head_y)
 
-pub returns-in_default-field-4 : goal.returns-in_default-field-4
+pub returns-in_err-film-clause-says : goal.returns-in_err-film-clause-says
 unfolding line_at and_then
-returns-in_default-field-4 c = rw (
-  ← c.in-Value.ensures,
-  ← c.in-Value-field.ensures,
-  ← c.in-Value-field-2.ensures,
-  ← c.in-Value-field-3.ensures,
-  ← c.in_default-field-4.ensures,
-)
+returns-in_err-film-clause-says c =
+    let third = c.in_ok-tail_y.ensures.text ∙ c.in_ok-tail_x.ensures.text in
+    let fourth = c.in_ok-head_x.ensures.text ∙ third in
+    let fifth = c.in_ok-head_y.ensures.text ∙ fourth in
+    let tail_y = rw c.in_ok-tail_x.ensures.text at c.in_ok-tail_y.ensures.says in
+    let head_x = rw third at c.in_ok-head_x.ensures.says in
+    let head_y = rw fourth at c.in_ok-head_y.ensures.says in
+    let film = rw fifth at c.in_err-film.ensures.says in
+    rw (c.from_residual-in_err-film.ensures, ← c.in_ok-tail_x.ensures.says, ← tail_y, ← head_x, ← head_y, ← film)
 
-pub returns : goal.returns
+pub returns-clause-says : goal.returns-clause-says
 unfolding line_at and_then
-returns c =
-    let tail_x : SFits w32 c.in-Value.tail_x = search rules in
-    let tail_y : SFits w32 c.in-Value-field.tail_y = search rules in
-    let head_x : SFits w32 c.in-Value-field-2.head_x = search rules in
-    let head_y : SFits w32 c.in-Value-field-3.head_y = search rules in
-    let film : SFits w32 c.in-Value-field-4.film = search rules in
+returns-clause-says c =
+    let tail_x_fits : SFits w32 c.in_ok-tail_x.tail_x = search rules in
+    let tail_y_fits : SFits w32 c.in_ok-tail_y.tail_y = search rules in
+    let head_x_fits : SFits w32 c.in_ok-head_x.head_x = search rules in
+    let head_y_fits : SFits w32 c.in_ok-head_y.head_y = search rules in
+    let film_fits : SFits w32 c.in_ok-film.film = search rules in
+    let third = c.in_ok-tail_y.ensures.text ∙ c.in_ok-tail_x.ensures.text in
+    let fourth = c.in_ok-head_x.ensures.text ∙ third in
+    let fifth = c.in_ok-head_y.ensures.text ∙ fourth in
+    let tail_y = rw c.in_ok-tail_x.ensures.text at c.in_ok-tail_y.ensures.says in
+    let head_x = rw third at c.in_ok-head_x.ensures.says in
+    let head_y = rw fourth at c.in_ok-head_y.ensures.says in
+    let film = rw fifth at c.in_ok-film.ensures.says in
     rw (
-      to_z-of_z w32 c.in-Value.tail_x tail_x,
-      to_z-of_z w32 c.in-Value-field.tail_y tail_y,
-      to_z-of_z w32 c.in-Value-field-2.head_x head_x,
-      to_z-of_z w32 c.in-Value-field-3.head_y head_y,
-      to_z-of_z w32 c.in-Value-field-4.film film,
-      ← c.in-Value.ensures,
-      ← c.in-Value-field.ensures,
-      ← c.in-Value-field-2.ensures,
-      ← c.in-Value-field-3.ensures,
-      ← c.in-Value-field-4.ensures,
+      to_z-of_z w32 c.in_ok-tail_x.tail_x tail_x_fits,
+      to_z-of_z w32 c.in_ok-tail_y.tail_y tail_y_fits,
+      to_z-of_z w32 c.in_ok-head_x.head_x head_x_fits,
+      to_z-of_z w32 c.in_ok-head_y.head_y head_y_fits,
+      to_z-of_z w32 c.in_ok-film.film film_fits,
+      ← c.in_ok-tail_x.ensures.says,
+      ← tail_y,
+      ← head_x,
+      ← head_y,
+      ← film,
     )

@@ -1,46 +1,35 @@
 -- `number` goes by what its parts found: no numeral, or one with at most seven digits, which stands inside the text and fits.
+use Rattle.std.proofs.Common.{arith, sym, ap, ◌∙◌}
+use denote.Bor.{now}
 use Rattle.text.proofs.Numerals.{no_number, is_number, a-number}
-use native.Mathlib.Omega.{arith}
-use mathlib.Core.Path.{sym, ◌∙◌}
 use Rattle.text.proofs.Cursor.number.Goals as goal
 
-pub returns-then-not-is_numeral : goal.returns-then-not-is_numeral
-returns-then-not-is_numeral c = no_number _ _
-    c.minus_at-minus.ensures
-    c.digits_at-start.ensures
-    c.digits_from-digits.ensures
-    c.byte_at.ensures
-    (sym c.is_numeral.ensures ∙ c.if-not-is_numeral.true)
+pub returns-then-not-is_numeral-clause-says : goal.returns-then-not-is_numeral-clause-says
+returns-then-not-is_numeral-clause-says c =
+    no_number _ _ c.sign-minus.ensures.minus c.sign-minus.ensures.digits (ap now c.sign-minus.ensures.text) c.digits-digits.ensures (sym c.is_numeral.ensures ∙ c.if-not-is_numeral.true)
 
-pub value_at-value-requires : goal.value_at-value-requires
-value_at-value-requires c = (is_number _ _ c.minus_at-minus.ensures c.digits_at-start.ensures c.digits_from-digits.ensures c.byte_at.ensures (sym c.is_numeral.ensures ∙ c.if-not-is_numeral.false)).few
+pub value_of-requires-clause-few : goal.value_of-requires-clause-few
+value_of-requires-clause-few c =
+    (is_number _ _ c.sign-minus.ensures.minus c.sign-minus.ensures.digits (ap now c.sign-minus.ensures.text) c.digits-digits.ensures (sym c.is_numeral.ensures ∙ c.if-not-is_numeral.false)).few
 
-pub with_sign-requires : goal.with_sign-requires
-with_sign-requires c =
-    let numeral = is_number _ _
-    c.minus_at-minus.ensures
-    c.digits_at-start.ensures
-    c.digits_from-digits.ensures
-    c.byte_at.ensures
-    (sym c.is_numeral.ensures ∙ c.if-not-is_numeral.false) in
-    omega (arith, numeral.small, c.value_at-value.ensures)
+pub value_of-requires-clause-digits : goal.value_of-requires-clause-digits
+value_of-requires-clause-digits c =
+    (is_number _ _ c.sign-minus.ensures.minus c.sign-minus.ensures.digits (ap now c.sign-minus.ensures.text) c.digits-digits.ensures (sym c.is_numeral.ensures ∙ c.if-not-is_numeral.false)).digits
 
-pub overflow_add-result : goal.overflow_add-result
-overflow_add-result c =
-    let numeral = is_number _ _
-    c.minus_at-minus.ensures
-    c.digits_at-start.ensures
-    c.digits_from-digits.ensures
-    c.byte_at.ensures
-    (sym c.is_numeral.ensures ∙ c.if-not-is_numeral.false) in
+pub with_sign-number-requires : goal.with_sign-number-requires
+with_sign-number-requires c =
+    let numeral =
+    is_number _ _ c.sign-minus.ensures.minus c.sign-minus.ensures.digits (ap now c.sign-minus.ensures.text) c.digits-digits.ensures (sym c.is_numeral.ensures ∙ c.if-not-is_numeral.false) in
+    omega (arith, numeral.small, c.value_of.ensures)
+
+pub overflow_add-at : goal.overflow_add-at
+overflow_add-at c =
+    let numeral =
+    is_number _ _ c.sign-minus.ensures.minus c.sign-minus.ensures.digits (ap now c.sign-minus.ensures.text) c.digits-digits.ensures (sym c.is_numeral.ensures ∙ c.if-not-is_numeral.false) in
     omega (arith, numeral.stands)
 
-pub returns : goal.returns
-returns c =
-    let numeral = is_number _ _
-    c.minus_at-minus.ensures
-    c.digits_at-start.ensures
-    c.digits_from-digits.ensures
-    c.byte_at.ensures
-    (sym c.is_numeral.ensures ∙ c.if-not-is_numeral.false) in
-    a-number numeral c.value_at-value.ensures c.with_sign.ensures
+pub returns-clause-says : goal.returns-clause-says
+returns-clause-says c =
+    let numeral =
+    is_number _ _ c.sign-minus.ensures.minus c.sign-minus.ensures.digits (ap now c.sign-minus.ensures.text) c.digits-digits.ensures (sym c.is_numeral.ensures ∙ c.if-not-is_numeral.false) in
+    a-number numeral c.value_of.ensures c.with_sign-number.ensures

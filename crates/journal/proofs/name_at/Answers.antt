@@ -1,8 +1,0 @@
--- `journal::name_at` meets its contract. The second number of the record.
-use Rattle.journal.specs.Layout.{record_at}
-use Rattle.laws.proofs.Bits.{read_back}
-use Rattle.journal.proofs.name_at.Goals as goal
-
-pub returns : goal.returns
-unfolding record_at
-returns c = rw (read_back _ c.natural-arg-1.given) at c.natural.ensures

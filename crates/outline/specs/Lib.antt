@@ -1,2 +1,0 @@
--- What reading the standard input answers.
-pub mod Input
