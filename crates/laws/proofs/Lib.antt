@@ -1,4 +1,5 @@
 -- The laws that other crates may cite.
+pub mod Computing
 pub mod Deciding
 pub mod Counting
 pub mod Between

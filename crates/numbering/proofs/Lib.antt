@@ -1,4 +1,5 @@
 -- How the outcome keeps the promise, and laws about it.
+pub mod Computing
 pub mod Matching
 pub mod Leaving
 pub mod Renamed

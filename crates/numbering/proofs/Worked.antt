@@ -9,29 +9,16 @@ use lib.Dec.{eqb}
 use lib.IntN.{pos}
 use lib.ListN.{length, get_or, replicate}
 use native.Mathlib.Omega.{arith}
-use Rattle.laws.specs.Counting as counting
-use Rattle.laws.specs.Listing as listing
 use Rattle.sheet.specs.declared.Refusal.{Refusal}
 use Rattle.sheet.specs.declared.Refusal.TheVariants.{NoRow}
-use Rattle.sheet.specs.Points as points
-use Rattle.sheet.specs.Rank as ranks
-use Rattle.sheet.specs.Turning as turning
-use Rattle.sheet.specs.Edges as edges
 use Rattle.sheet.specs.Edges.{drawing_of, top_height}
 use Rattle.sheet.specs.Passing as passings
 use Rattle.sheet.specs.Passing.{passing, Most}
-use Rattle.sheet.specs.Kinds as kinds
-use Rattle.sheet.specs.Corners as corners
 use Rattle.sheet.specs.Answers as answers
 use Rattle.sheet.specs.Answers.{number_of, place_of}
 use Rattle.sheet.proofs.WorkedRows as worked
 use Rattle.sheet.proofs.Drawn.{triangle, two_edges, square, two_peaks, touching, three_pairs, shared_side, side_twice, one_top, one_top_around, touching_films, two_pixels, crossing}
 use Rattle.steps.specs.Rows as rows
-use Rattle.steps.specs.SweepUp as up
-use Rattle.steps.specs.SweepDown as down
-use Rattle.steps.specs.Plain as plain
-use Rattle.steps.specs.Swept as swept
-use Rattle.numbering.specs.Outcome as outcomes
 use Rattle.numbering.specs.Outcome.{Lent, Left, outcome}
 use Rattle.numbering.specs.Promised.{Promised, RowsEnough, fewer_rows}
 use Rattle.numbering.proofs.Promising.{promised}
@@ -39,6 +26,7 @@ use Rattle.sheet.specs.Amounts.{numbers_per_edge, journal_numbers_per_edge}
 use Rattle.steps.specs.Swept.{numbers_per_row, LacksItself}
 use Rattle.sheet.specs.declared.Numbered.{Numbered}
 use Rattle.sheet.specs.Answers as answers
+use Rattle.numbering.proofs.Computing.{numbering_computed}
 
 -- a sheet with the lengths of the slices lent, and what 01 says of it: refusal and place, or 0, 0; polygons, peak, records; the two lists
 pub record Expected : Type 0 where
@@ -210,91 +198,7 @@ unfolding
     two-touching
     triangle_place
     passings.passing
-    counting.count
-    counting.some_below
-    counting.first
-    counting.first_from
-    points.same_z
-    points.is_below
-    points.is_same
-    points.within
-    points.in_range
-    points.is_film
-    points.is_up
-    points.top_of
-    ranks.shift
-    ranks.rank
-    ranks.place_on
-    turning.sign
-    turning.towards
-    turning.cross
-    turning.turn
-    turning.same_way
-    turning.sooner
-    edges.edge_at
-    edges.edges_in
-    edges.drawing_of
-    kinds.comes
-    kinds.number_at
-    corners.four
-    corners.of_kind
-    corners.corner_at
-    corners.two_in_one
-    corners.leaving_first
-    corners.alternate
-    corners.lower_apart
-    corners.apart
-    answers.not_whole
-    answers.too_many
-    answers.lists_differ
-    answers.journal_short
-    answers.past_range
-    answers.film_past_range
-    answers.equal_ends
-    answers.top_falls
-    answers.same_kind
-    answers.repeats
-    answers.differ
-    answers.uneven
-    answers.tangled
-    answers.not_alternating
-    answers.checked
-    rows.lowest_free
-    up.found_below
-    up.has_tip
-    up.as_edge
-    up.find
-    up.chosen
-    up.in_use
-    up.can_open
-    up.open_row
-    up.write
-    up.move
-    up.attach
-    up.close
-    up.pick_meeting
-    up.meeting
-    up.finish
-    up.free
-    up.pass_up
-    up.pass_both
-    up.meet
-    up.on_row
-    up.in_chain
-    up.steps_on
-    up.treat
-    up.sweep_up
-    down.sweep_down
-    down.natural_part
-    plain.plain_table
-    plain.plain_journal
-    plain.plain_tables
-    swept.swept_to
-    swept.read_down
-    listing.listed
-    outcomes.up
-    outcomes.down
-    outcomes.outcome
+    numbering_computed
 all-worked =
     record {
       right_all = refl;

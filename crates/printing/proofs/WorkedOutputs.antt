@@ -5,27 +5,11 @@ use mathlib.Core.Bool.{Bool, true, false, ◌&&◌}
 use Prim.Native.String.{String}
 use mathlib.Core.List.{List, [], ◌∷◌}
 use lib.Dec.{eqb}
-use Rattle.laws.specs.Counting as counting
-use Rattle.laws.specs.Listing as listing
-use Rattle.sheet.specs.Points as points
-use Rattle.sheet.specs.Rank as ranks
-use Rattle.sheet.specs.Turning as turning
-use Rattle.sheet.specs.Edges as edges
-use Rattle.sheet.specs.Kinds as kinds
-use Rattle.sheet.specs.Corners as corners
-use Rattle.sheet.specs.Answers as answers
-use Rattle.steps.specs.Rows as rows
-use Rattle.steps.specs.SweepUp as up
-use Rattle.steps.specs.SweepDown as down
-use Rattle.steps.specs.Plain as plain
-use Rattle.steps.specs.Swept as swept
-use Rattle.text.specs.Said as said
-use Rattle.text.specs.Numbers as numbers
 use Rattle.text.specs.Lines as lines
-use Rattle.text.specs.Texts as texts
 use Rattle.text.specs.Written as written
-use Rattle.numbering.specs.Outcome as outcomes
 use Rattle.printing.specs.Output.{bytes, decimal, accepted, refused, edge_line, edge_lines, outcome_lines, printed}
+use Rattle.numbering.proofs.Computing.{numbering_computed}
+use Rattle.text.proofs.Computing.{texts_computed}
 
 record Expected : Type 0 where
   text : String
@@ -76,120 +60,8 @@ unfolding
     edge_lines
     outcome_lines
     printed
-    counting.count
-    counting.some_below
-    counting.first
-    counting.first_from
-    points.same_z
-    points.is_below
-    points.is_same
-    points.within
-    points.in_range
-    points.is_film
-    points.is_up
-    points.top_of
-    ranks.shift
-    ranks.rank
-    ranks.place_on
-    turning.sign
-    turning.towards
-    turning.cross
-    turning.turn
-    turning.same_way
-    turning.sooner
-    edges.edge_at
-    edges.edges_in
-    edges.drawing_of
-    kinds.comes
-    kinds.number_at
-    corners.four
-    corners.of_kind
-    corners.corner_at
-    corners.two_in_one
-    corners.leaving_first
-    corners.alternate
-    corners.lower_apart
-    corners.apart
-    answers.not_whole
-    answers.too_many
-    answers.lists_differ
-    answers.journal_short
-    answers.past_range
-    answers.film_past_range
-    answers.equal_ends
-    answers.top_falls
-    answers.same_kind
-    answers.repeats
-    answers.differ
-    answers.uneven
-    answers.tangled
-    answers.not_alternating
-    answers.checked
-    rows.lowest_free
-    up.found_below
-    up.has_tip
-    up.as_edge
-    up.find
-    up.chosen
-    up.in_use
-    up.can_open
-    up.open_row
-    up.write
-    up.move
-    up.attach
-    up.close
-    up.pick_meeting
-    up.meeting
-    up.finish
-    up.free
-    up.pass_up
-    up.pass_both
-    up.meet
-    up.on_row
-    up.in_chain
-    up.steps_on
-    up.treat
-    up.sweep_up
-    down.sweep_down
-    down.natural_part
-    plain.plain_table
-    plain.plain_journal
-    plain.plain_tables
-    swept.swept_to
-    swept.read_down
-    listing.listed
-    outcomes.up
-    outcomes.down
-    outcomes.outcome
-    said.and_then
-    numbers.byte_at
-    numbers.is_digit
-    numbers.minus_at
-    numbers.digits_at
-    numbers.digits_from
-    numbers.value_at
-    numbers.leading_zero
-    numbers.minus_zero
-    numbers.is_numeral
-    numbers.with_sign
-    numbers.numeral_at
-    numbers.number_at
-    lines.past_at
-    lines.field_at
-    lines.line_at
-    lines.is_malformed
-    texts.newline_at
-    texts.newlines
-    texts.unended
-    texts.line_count
-    texts.after_newline
-    texts.line_start
-    texts.line_of
-    texts.first_malformed
-    texts.past_limits
-    texts.too_much
-    texts.answer_of
-    texts.reading_of
     written.decimal
     lines.edge_in
+    numbering_computed
+    texts_computed
 worked = refl

@@ -1,4 +1,5 @@
 -- The laws about points and lists that other crates may cite.
+pub mod Computing
 pub mod Signed
 pub mod Comparing
 pub mod Shifting

@@ -4,17 +4,12 @@ use mathlib.Core.Bool.{Bool, true, false, not, ◌&&◌}
 use mathlib.Core.List.{List, map}
 use Prim.Native.Nat.{ℕ}
 use lib.IntN.{pos}
-use Rattle.laws.specs.Counting as counting
-use Rattle.sheet.specs.Rank as ranks
 use Rattle.sheet.specs.Rank.{place_on}
-use Rattle.sheet.specs.Turning as turning
 use Rattle.sheet.specs.Turning.{sooner}
-use Rattle.sheet.specs.Edges as edges
 use Rattle.sheet.specs.Edges.{drawing_of}
-use Rattle.sheet.specs.Kinds as kinds
-use Rattle.sheet.specs.Corners as corners
 use Rattle.sheet.specs.Corners.{apart}
 use Rattle.sheet.proofs.Drawn.{two_edges, touching, two_pixels, crossing}
+use Rattle.sheet.proofs.Computing.{sheets_computed}
 
 apart_in : List ℕ → ℕ → ℕ → ℕ → Bool
 apart_in list film x y = apart (drawing_of (map pos list)) (place_on (pos film) (record { x = pos x; y = pos y }))
@@ -36,25 +31,5 @@ all-worked : AllWorked
 unfolding
     apart_in
     met_before
-    counting.count
-    counting.first
-    counting.first_from
-    ranks.shift
-    ranks.rank
-    ranks.place_on
-    turning.sign
-    turning.towards
-    turning.cross
-    turning.turn
-    turning.sooner
-    edges.edge_at
-    edges.edges_in
-    edges.drawing_of
-    kinds.comes
-    kinds.number_at
-    corners.four
-    corners.of_kind
-    corners.corner_at
-    corners.lower_apart
-    corners.apart
+    sheets_computed
 all-worked = record { pixels = refl; touching_sheet = refl; two_edges_lem = refl; two_films = refl }

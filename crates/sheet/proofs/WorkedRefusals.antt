@@ -9,18 +9,11 @@ use mathlib.Core.List.{List, [], ◌∷◌, map}
 use lib.Dec.{eqb}
 use lib.IntN.{ℤ, pos, negsuc}
 use lib.ListN.{length, replicate, take}
-use Rattle.laws.specs.Counting as counting
-use Rattle.sheet.specs.Points as points
-use Rattle.sheet.specs.Rank as ranks
-use Rattle.sheet.specs.Turning as turning
-use Rattle.sheet.specs.Edges as edges
-use Rattle.sheet.specs.Kinds as kinds
-use Rattle.sheet.specs.Corners as corners
-use Rattle.sheet.specs.Answers as answers
 use Rattle.sheet.specs.Answers.{Call, number_of, place_of, checked}
 use Rattle.sheet.specs.Amounts.{numbers_per_edge}
 use Rattle.sheet.proofs.Drawn.{triangle, two_edges, shared_side, side_twice, two_pixels, crossing, one_way}
 use Rattle.sheet.specs.declared.Refusal.{Refusal}
+use Rattle.sheet.proofs.Computing.{sheets_computed}
 
 -- a call, and the answer sheet's number and place for it; 0, 0 where it passes
 record Expected : Type 0 where
@@ -111,51 +104,5 @@ unfolding
     fitted
     case
     calls
-    counting.count
-    counting.some_below
-    counting.first
-    counting.first_from
-    points.same_z
-    points.is_below
-    points.is_same
-    points.within
-    points.in_range
-    points.is_film
-    points.is_up
-    points.top_of
-    ranks.shift
-    ranks.rank
-    ranks.place_on
-    turning.sign
-    turning.towards
-    turning.cross
-    turning.turn
-    turning.same_way
-    turning.sooner
-    edges.edge_at
-    edges.edges_in
-    edges.drawing_of
-    kinds.comes
-    kinds.number_at
-    corners.four
-    corners.of_kind
-    corners.corner_at
-    corners.two_in_one
-    corners.leaving_first
-    corners.alternate
-    answers.not_whole
-    answers.too_many
-    answers.lists_differ
-    answers.journal_short
-    answers.past_range
-    answers.film_past_range
-    answers.equal_ends
-    answers.top_falls
-    answers.same_kind
-    answers.repeats
-    answers.differ
-    answers.uneven
-    answers.tangled
-    answers.not_alternating
-    answers.checked
+    sheets_computed
 all-worked = record { right_all = refl; too_many_lem = λ polygons sequences turns journal. refl }

@@ -1,4 +1,5 @@
 -- What is shown of the steps: worked sheets, a sheet alone with its table, two rooms run alike, and the bounds that follow.
+pub mod Computing
 pub mod Sheets
 pub mod Finding
 pub mod Alone

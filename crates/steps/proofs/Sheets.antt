@@ -8,26 +8,16 @@ use mathlib.Core.List.{List, [], ◌∷◌, map}
 use lib.Dec.{eqb}
 use lib.IntN.{pos, nat_abs}
 use lib.ListN.{length}
-use Rattle.laws.specs.Counting as counting
-use Rattle.sheet.specs.Edges as edges
 use Rattle.sheet.specs.Edges.{drawing_of}
-use Rattle.sheet.specs.Rank as ranks
-use Rattle.sheet.specs.Turning as turning
-use Rattle.sheet.specs.Kinds as kinds
-use Rattle.sheet.specs.Corners as corners
 use Rattle.sheet.proofs.Drawn.{triangle, two_edges, square, two_peaks, touching, shared_side, one_top, one_top_around, touching_films, two_pixels, crossing}
-use Rattle.steps.specs.Rows as rows
 use Rattle.steps.specs.Rows.{Row, Record, in_row}
-use Rattle.steps.specs.SweepUp as up
 use Rattle.steps.specs.SweepUp.{State, Sweep}
-use Rattle.steps.specs.SweepDown as down
 use Rattle.steps.specs.SweepDown.{Pair, Reading}
-use Rattle.steps.specs.Plain as plain
-use Rattle.steps.specs.Swept as swept
 use Rattle.steps.specs.Swept.{swept_to, read_down}
 use Rattle.sheet.specs.Amounts.{numbers_per_edge}
 use Rattle.steps.specs.declared.Halt.{Halt}
 use Rattle.steps.specs.declared.Halt.TheVariants.{NoFreeRow, Overrun}
+use Rattle.steps.proofs.Computing.{steps_computed}
 
 -- a sheet with the rows lent, and what 01 says of it: how it ends and at which edge, polygons, peak, records, the pairs in list order
 record Worked : Type 0 where
@@ -108,56 +98,5 @@ unfolding
     right
     accepted
     sheets
-    counting.count
-    counting.first
-    counting.first_from
-    edges.edge_at
-    edges.edges_in
-    edges.drawing_of
-    ranks.shift
-    ranks.rank
-    ranks.place_on
-    turning.sign
-    turning.towards
-    turning.cross
-    turning.turn
-    turning.sooner
-    kinds.comes
-    kinds.number_at
-    corners.four
-    corners.of_kind
-    corners.corner_at
-    corners.lower_apart
-    corners.apart
-    rows.lowest_free
-    up.found_below
-    up.has_tip
-    up.as_edge
-    up.find
-    up.chosen
-    up.in_use
-    up.can_open
-    up.open_row
-    up.write
-    up.move
-    up.attach
-    up.close
-    up.pick_meeting
-    up.meeting
-    up.finish
-    up.free
-    up.pass_up
-    up.pass_both
-    up.meet
-    up.on_row
-    up.in_chain
-    up.steps_on
-    up.treat
-    up.sweep_up
-    down.sweep_down
-    plain.plain_table
-    plain.plain_journal
-    plain.plain_tables
-    swept.swept_to
-    swept.read_down
+    steps_computed
 all-sheets = record { all_right_lem = refl; opened_again = refl }

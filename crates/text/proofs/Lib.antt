@@ -1,4 +1,5 @@
 -- The laws that the proofs of the functions use, and the theorems about the definitions.
+pub mod Computing
 pub mod Bytes
 pub mod Signs
 pub mod Numerals

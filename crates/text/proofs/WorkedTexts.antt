@@ -9,14 +9,10 @@ use mathlib.Core.List.{List, [], ◌∷◌, ◌++◌}
 use lib.Dec.{eqb}
 use lib.IntN.{ℤ, pos, negsuc}
 use lib.ListN.{length, replicate}
-use Rattle.laws.specs.Counting as counting
-use Rattle.text.specs.Said as said
 use Rattle.text.specs.Said.{read}
-use Rattle.text.specs.Numbers as numbers
-use Rattle.text.specs.Lines as lines
 use Rattle.text.specs.Lines.{edge_of, line_at}
-use Rattle.text.specs.Texts as texts
 use Rattle.text.specs.Texts.{reading_of, reading_number, reading_place}
+use Rattle.text.proofs.Computing.{texts_computed}
 
 -- a text, and 01's number and place for it; 0, 0 where it is read
 record Expected : Type 0 where
@@ -87,36 +83,5 @@ unfolding
     rest
     table
     ReadOn
-    counting.count
-    counting.first
-    counting.first_from
-    said.and_then
-    numbers.byte_at
-    numbers.is_digit
-    numbers.minus_at
-    numbers.digits_at
-    numbers.digits_from
-    numbers.value_at
-    numbers.leading_zero
-    numbers.minus_zero
-    numbers.is_numeral
-    numbers.with_sign
-    numbers.numeral_at
-    numbers.number_at
-    lines.past_at
-    lines.field_at
-    lines.line_at
-    lines.is_malformed
-    texts.newline_at
-    texts.newlines
-    texts.unended
-    texts.line_count
-    texts.after_newline
-    texts.line_start
-    texts.line_of
-    texts.first_malformed
-    texts.past_limits
-    texts.too_much
-    texts.answer_of
-    texts.reading_of
+    texts_computed
 worked = (refl, refl, refl, refl)
