@@ -27,7 +27,7 @@ fn film_past_range(edge: Edge) -> bool
 fn equal_ends(edge: Edge) -> bool
     ensures { result ≡ ends_equal edge }
 {
-    edge.tail == edge.head
+    edge.tail.same(edge.head)
 }
 
 // Whether an edge has 5 or 16.
@@ -52,8 +52,11 @@ fn first_fault(edges: &[i32]) -> Option<usize>
     let mut last: u64 = 0;
     for e in 0..edges.len() / Edge::NUMBERS {
         let edge = Edge::at(edges, e);
+        if past_limits(edge) {
+            return Some(e);
+        }
         let top = edge.top_rank();
-        if past_limits(edge) || edge.tail_rank() == edge.head_rank() || top < last {
+        if edge.tail_rank() == edge.head_rank() || top < last {
             return Some(e);
         }
         last = top;

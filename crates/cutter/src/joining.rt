@@ -30,7 +30,7 @@ impl Outlines<'_> {
         let next = self.next_at(i);
         let edge = Edge::at(self.edges, self.turns[i] as usize);
         let follower = Edge::at(self.edges, self.turns[next] as usize);
-        edge.head != follower.tail
+        !edge.head.same(follower.tail)
     }
 
     // The first position of such an edge.

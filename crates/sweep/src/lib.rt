@@ -51,7 +51,7 @@ impl NamedEdge {
     fn side(self) -> Side
         ensures { result ≡ up.side_of film_places (edge_of self) }
     {
-        if self.tail < self.head {
+        if self.tail.below(self.head) {
             Side::Rising
         } else {
             Side::Falling

@@ -275,7 +275,7 @@ impl<'a> Writer<'a> {
         ensures lent { SameLent self.old self.new }
         ensures treated { Treated (λ number. Numbered number (slices self.old) e) (slices self.old) (slices self.new) result (up.treat (room_of (slices self.old)) levels 0 (state_of (slices self.old) (Ok tt)) (edge_of e)) }
     {
-        if e.tail == e.head {
+        if e.tail.same(e.head) {
             return self.close(0, e);
         }
         let Some((q, r)) = self.step(0, e)? else {
@@ -332,7 +332,7 @@ impl<'a> Writer<'a> {
         free::give_back(self.counts, r);
         let level = under + 1;
         let left = above - 1;
-        if e.tail == e.head {
+        if e.tail.same(e.head) {
             return self.close(level, e);
         }
         if left == 0 {

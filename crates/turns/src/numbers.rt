@@ -97,12 +97,15 @@ impl Numbers<'_> {
         keys.lacks_sequence(polygon, self.sequences[e]) || keys.lacks_polygon(polygon)
     }
 
-    // 14: the first edge that it holds of.
+    // 14: the first edge that it holds of. Of keys that leave no number out it holds nowhere, and no edge is asked.
     pub fn first_gap(&self, keys: &Rising) -> Option<usize>
         requires keys { Keyed (lists_of self.now) keys.now.words.now }
         requires long { length keys.now.words.now ≡ length self.now.polygons.now }
         ensures { IsFirst (gap (lists_of self.now)) (length self.now.polygons.now) result }
     {
+        if keys.are_whole() {
+            return None;
+        }
         (0..self.polygons.len()).find(|e| self.has_gap(keys, *e))
     }
 }

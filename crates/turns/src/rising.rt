@@ -1,6 +1,6 @@
 // Keys that rise, and what is asked of them: where a key stands is found by halving.
-ghost use Rattle.std.specs.Prelude.{◌≡◌, length};
-ghost use Rattle.turns.specs.Keys.{key_of, Rising, place_from, stands_between};
+ghost use Rattle.std.specs.Prelude.{◌≡◌, ◌↔◌, true, length};
+ghost use Rattle.turns.specs.Keys.{key_of, Rising, place_from, stands_between, goes_on, Whole};
 ghost use Rattle.turns.specs.Answers.{sequence_missing, polygon_missing, last_polygon};
 
 // How many keys a polygon has: one for each sequence number.
@@ -12,6 +12,18 @@ pub fn key(polygon: u32, sequence: u32) -> u64
     ensures { result ≡ key_of polygon sequence }
 {
     u64::from(polygon) * KEYS + u64::from(sequence)
+}
+
+// Whether a key goes on from the one before.
+#[tactic(auto, unfolding(crate::specs::Keys::goes_on))]
+fn goes_on(key: u64, next: u64) -> bool
+    ensures { result ≡ goes_on key next }
+{
+    if next % KEYS == 0 {
+        next / KEYS == key / KEYS + 1
+    } else {
+        next - 1 == key
+    }
 }
 
 #[derive(Clone, Copy)]
@@ -50,6 +62,19 @@ impl Rising<'_> {
         ensures { result ≡ polygon_missing self.now.words.now (length self.now.words.now) polygon }
     {
         1 < polygon && !self.stands(key(polygon - 1, 0), key(polygon, 0))
+    }
+
+    // Whether they leave no number out. One pass tells it, where 14 asks for each edge.
+    pub fn are_whole(&self) -> bool
+        ensures { (result ≡ true) ↔ Whole self.now.words.now (length self.now.words.now) }
+    {
+        if self.words.is_empty() {
+            return true;
+        }
+        if self.words[0] != key(1, 0) {
+            return false;
+        }
+        self.words.is_sorted_by(|word, next| goes_on(*word, *next))
     }
 
     // The polygon of the last key, 0 where there is none. It has 32 bits, as is proved: TryFrom is no plainer, with a case that never comes.

@@ -1,13 +1,12 @@
 -- `sweep::NamedEdge::side` meets its contract. By the order of the two ends.
 use mathlib.Core.Path.{sym, ◌∙◌}
-use Rattle.sheet.proofs.Comparing.{partial-below}
 use Rattle.rows.specs.Layout.{film_places}
 use Rattle.sweep.proofs.NamedEdge.side.Goals as goal
 
-pub returns-then-lt : goal.returns-then-lt
+pub returns-then-below : goal.returns-then-below
 unfolding film_places
-returns-then-lt c = rw (sym (c.lt.ensures ∙ partial-below c.args.self.tail c.args.self.head) ∙ c.if-lt.true)
+returns-then-below c = rw (sym c.below.ensures ∙ c.if-below.true)
 
-pub returns-else-lt : goal.returns-else-lt
+pub returns-else-below : goal.returns-else-below
 unfolding film_places
-returns-else-lt c = rw (sym (c.lt.ensures ∙ partial-below c.args.self.tail c.args.self.head) ∙ c.if-lt.false)
+returns-else-below c = rw (sym c.below.ensures ∙ c.if-below.false)

@@ -3,7 +3,6 @@ use native.Mathlib.Omega.{arith}
 use mathlib.Core.Path.{sym, ◌∙◌}
 use Prim.Native.Nat.{◌+◌, ◌-◌}
 use Rattle.std.proofs.lemmas.Result.{err_from_is_err_and}
-use Rattle.sheet.proofs.Comparing.{eq-same}
 use Rattle.sweep.specs.Treated.{slices}
 use Rattle.sweep.proofs.Outcomes.{raising, from-raised, closed, none_left, step-halted, step-done, step-passed}
 use Rattle.sweep.proofs.Passing.{passed-not, passed, both_ends, one-row, both-rows}
@@ -30,19 +29,19 @@ pub pass_up-returns-clause-treated : goal.pass_up-returns-clause-treated
 pass_up-returns-clause-treated t c = let g = c.args in
     passed (slices g.self.now) (g.left - 1) (g.level + 1) g.r c.is_finished.ensures c.if-not-is_finished.false c.raise.ensures.treated
 
-pub raise-returns-then-eq-clause-treated : goal.raise-returns-then-eq-clause-treated
-raise-returns-then-eq-clause-treated t c =
+pub raise-returns-then-same-clause-treated : goal.raise-returns-then-same-clause-treated
+raise-returns-then-same-clause-treated t c =
     let l = slices c.args.self.now in
     let E = c.as_edge-e.ensures in
     from-raised l c.args.r c.requires.0 c.as_edge-e.result E.edge.0 E.numbers.0 E.numbers.1 c.free_row.ensures c.give_back.ensures (c.args.above - 1) (c.args.under + 1)
-    (closed (raising l c.args.r c.requires.0 c.as_edge-e.result E.edge.0 E.numbers.0 E.numbers.1 c.free_row.ensures c.give_back.ensures) (c.args.above - 1) (c.args.under + 1) c.as_edge-e.result (sym (c.eq.ensures ∙ eq-same c.as_edge-e.result.tail c.as_edge-e.result.head) ∙ c.if-eq.true) c.close.ensures.beside c.close.ensures.closed)
+    (closed (raising l c.args.r c.requires.0 c.as_edge-e.result E.edge.0 E.numbers.0 E.numbers.1 c.free_row.ensures c.give_back.ensures) (c.args.above - 1) (c.args.under + 1) c.as_edge-e.result (sym c.same.ensures ∙ c.if-same.true) c.close.ensures.beside c.close.ensures.closed)
 
 pub raise-returns-then-left-eq0-clause-treated : goal.raise-returns-then-left-eq0-clause-treated
 raise-returns-then-left-eq0-clause-treated t c =
     let l = slices c.args.self.now in
     let E = c.as_edge-e.ensures in
     from-raised l c.args.r c.requires.0 c.as_edge-e.result E.edge.0 E.numbers.0 E.numbers.1 c.free_row.ensures c.give_back.ensures (c.args.above - 1) (c.args.under + 1)
-    (none_left (raising l c.args.r c.requires.0 c.as_edge-e.result E.edge.0 E.numbers.0 E.numbers.1 c.free_row.ensures c.give_back.ensures) (c.args.above - 1) (c.args.under + 1) c.as_edge-e.result (sym (c.eq.ensures ∙ eq-same c.as_edge-e.result.tail c.as_edge-e.result.head) ∙ c.if-eq.false) c.if-left-eq0.true)
+    (none_left (raising l c.args.r c.requires.0 c.as_edge-e.result E.edge.0 E.numbers.0 E.numbers.1 c.free_row.ensures c.give_back.ensures) (c.args.above - 1) (c.args.under + 1) c.as_edge-e.result (sym c.same.ensures ∙ c.if-same.false) c.if-left-eq0.true)
 
 pub raise-returns-in_err-q-clause-treated : goal.raise-returns-in_err-q-clause-treated
 raise-returns-in_err-q-clause-treated t c =
@@ -50,18 +49,18 @@ raise-returns-in_err-q-clause-treated t c =
     let E = c.as_edge-e.ensures in
     let p = err_from_is_err_and c.from_residual.result c.from_residual.ensures.1 in rw (p.1, p.2)
     (from-raised l c.args.r c.requires.0 c.as_edge-e.result E.edge.0 E.numbers.0 E.numbers.1 c.free_row.ensures c.give_back.ensures (c.args.above - 1) (c.args.under + 1)
-    (step-halted _ (c.args.above - 1) (c.args.under + 1) c.as_edge-e.result (sym (c.eq.ensures ∙ eq-same c.as_edge-e.result.tail c.as_edge-e.result.head) ∙ c.if-eq.false) (omega (arith, c.if-left-eq0.false)) c.in_err-q.ensures.stepped))
+    (step-halted _ (c.args.above - 1) (c.args.under + 1) c.as_edge-e.result (sym c.same.ensures ∙ c.if-same.false) (omega (arith, c.if-left-eq0.false)) c.in_err-q.ensures.stepped))
 
 pub raise-returns-in_default-clause-treated : goal.raise-returns-in_default-clause-treated
 raise-returns-in_default-clause-treated t c =
     let l = slices c.args.self.now in
     let E = c.as_edge-e.ensures in
     from-raised l c.args.r c.requires.0 c.as_edge-e.result E.edge.0 E.numbers.0 E.numbers.1 c.free_row.ensures c.give_back.ensures (c.args.above - 1) (c.args.under + 1)
-    (step-done _ (c.args.above - 1) (c.args.under + 1) c.as_edge-e.result (sym (c.eq.ensures ∙ eq-same c.as_edge-e.result.tail c.as_edge-e.result.head) ∙ c.if-eq.false) (omega (arith, c.if-left-eq0.false)) c.in_default.is c.in_ok-q.ensures.stepped)
+    (step-done _ (c.args.above - 1) (c.args.under + 1) c.as_edge-e.result (sym c.same.ensures ∙ c.if-same.false) (omega (arith, c.if-left-eq0.false)) c.in_default.is c.in_ok-q.ensures.stepped)
 
 pub raise-returns-clause-treated : goal.raise-returns-clause-treated
 raise-returns-clause-treated t c =
     let l = slices c.args.self.now in
     let E = c.as_edge-e.ensures in
     from-raised l c.args.r c.requires.0 c.as_edge-e.result E.edge.0 E.numbers.0 E.numbers.1 c.free_row.ensures c.give_back.ensures (c.args.above - 1) (c.args.under + 1)
-    (step-passed _ (c.args.above - 1) (c.args.under + 1) c.as_edge-e.result (sym (c.eq.ensures ∙ eq-same c.as_edge-e.result.tail c.as_edge-e.result.head) ∙ c.if-eq.false) (omega (arith, c.if-left-eq0.false)) {p = (c.in-Some.q, c.in-Some.s)} c.in-Some.is c.in_ok-q.ensures.stepped c.in_ok-q.ensures.lent.kept c.pass_both.ensures.treated)
+    (step-passed _ (c.args.above - 1) (c.args.under + 1) c.as_edge-e.result (sym c.same.ensures ∙ c.if-same.false) (omega (arith, c.if-left-eq0.false)) {p = (c.in-Some.q, c.in-Some.s)} c.in-Some.is c.in_ok-q.ensures.stepped c.in_ok-q.ensures.lent.kept c.pass_both.ensures.treated)
